@@ -41,8 +41,8 @@ total-most pools wide sums caps a lo hi =
     let xs : List ℕ = pool-of pools a .shares in
     let n : length xs ≡ 64 = wide a lo hi in
     let each : All (λ x. x ≤ 10 ^ 17) xs =
-        all-from-getD (λ x. x ≤ 10 ^ 17) xs 0
-        (λ j l. let k : Known (j + 1) a = omega arith in let e : j + 1 - 1 ≡ j = omega arith in omega (arith, ceiling-most a, rw e at (caps (j + 1) a k)))
+    all-from-getD (λ x. x ≤ 10 ^ 17) xs 0
+    (λ j l. let k : Known (j + 1) a = omega arith in let e : j + 1 - 1 ≡ j = omega arith in omega (arith, ceiling-most a, rw e at (caps (j + 1) a k)))
     in
     let most : sum xs ≤ 64 * 10 ^ 17 = rw n at (sumBy-le (λ x. x) (10 ^ 17) xs each) in
     omega (arith, sums a lo hi)
@@ -61,17 +61,24 @@ replaced-sound pools c a t v four wide sums caps k room even =
     let lc : c - 1 < length xs = omega arith in
     let p : Pool = pooled t (set xs (c - 1) v) in
     let moved : sum (set xs (c - 1) v) + getD xs (c - 1) 0 ≡ sum xs + v = sumBy-set (λ x. x) xs (c - 1) v 0 lc in
-    let total : t ≡ sum (set xs (c - 1) v) = omega (arith, sums a (k .2) (k .3)) in
-    ( simp length-set four
-    , ( λ b lo hi. at-set pools (a - 1) (b - 1) p no-pool la (λ q. length (q .shares) ≡ 64) (λ _. simp length-set n) (λ _. wide b lo hi)
-      , ( λ b lo hi. at-set pools (a - 1) (b - 1) p no-pool la (λ q. q .total ≡ sum (q .shares)) (λ _. total) (λ _. sums b lo hi)
-        , ( λ x y m.
-              at-set pools (a - 1) (y - 1) p no-pool la (λ q. getD (q .shares) (x - 1) 0 ≤ ceiling y)
-              (λ e.
-                  let same : y ≡ a = omega arith in
-                  rw same (at-set xs (c - 1) (x - 1) v 0 lc (λ z. z ≤ ceiling a) (λ _. room) (λ _. caps x a (omega arith))))
-              (λ _. caps x y m)
-          , tt ))))
+    let total : t ≡ sum (set xs (c - 1) v) = omega (arith, sums a (k .2) (k .3)) in (
+      simp length-set four,
+      (
+        λ b lo hi. at-set pools (a - 1) (b - 1) p no-pool la (λ q. length (q .shares) ≡ 64) (λ _. simp length-set n) (λ _. wide b lo hi),
+        (
+          λ b lo hi. at-set pools (a - 1) (b - 1) p no-pool la (λ q. q .total ≡ sum (q .shares)) (λ _. total) (λ _. sums b lo hi),
+          (
+            λ x y m.
+                at-set pools (a - 1) (y - 1) p no-pool la (λ q. getD (q .shares) (x - 1) 0 ≤ ceiling y)
+                (λ e.
+                let same : y ≡ a = omega arith in
+                rw same (at-set xs (c - 1) (x - 1) v 0 lc (λ z. z ≤ ceiling a) (λ _. room) (λ _. caps x a (omega arith))))
+                (λ _. caps x y m),
+            tt,
+          ),
+        ),
+      ),
+    )
 
 -- ---- at making
 each-of : {X : Type 0} (n i : ℕ) (x d : X) (P : X → Type 0) → i < n → P x → P (getD (replicate n x) i d)
@@ -85,8 +92,13 @@ empty-share c a k =
     (each-of 64 (c - 1) 0 0 (λ n. n ≡ 0) lc refl)
 
 pub empty-sound : Sound empty-pools
-empty-sound =
-    ( refl
-    , ( λ a lo hi. each-of 4 (a - 1) (pooled 0 (replicate 64 0)) no-pool (λ q. length (q .shares) ≡ 64) (omega arith) refl
-      , ( λ a lo hi. each-of 4 (a - 1) (pooled 0 (replicate 64 0)) no-pool (λ q. q .total ≡ sum (q .shares)) (omega arith) refl
-        , ( λ c a k. omega (arith, empty-share c a k) , tt ))))
+empty-sound = (
+  refl,
+  (
+    λ a lo hi. each-of 4 (a - 1) (pooled 0 (replicate 64 0)) no-pool (λ q. length (q .shares) ≡ 64) (omega arith) refl,
+    (
+      λ a lo hi. each-of 4 (a - 1) (pooled 0 (replicate 64 0)) no-pool (λ q. q .total ≡ sum (q .shares)) (omega arith) refl,
+      (λ c a k. omega (arith, empty-share c a k), tt),
+    ),
+  ),
+)

@@ -39,7 +39,10 @@ fn raise(pool: Pool, customer: u64, amount: u64) -> Pool
 {
     let mut shares = pool.shares;
     shares[(customer - 1) as usize] += amount;
-    Pool { total: pool.total + amount, shares }
+    Pool {
+        total: pool.total + amount,
+        shares,
+    }
 }
 
 /// Units that go out, of a customer's share and of the total.
@@ -51,7 +54,10 @@ fn lower(pool: Pool, customer: u64, amount: u64) -> Pool
 {
     let mut shares = pool.shares;
     shares[(customer - 1) as usize] -= amount;
-    Pool { total: pool.total - amount, shares }
+    Pool {
+        total: pool.total - amount,
+        shares,
+    }
 }
 
 impl Commingled {
@@ -59,7 +65,12 @@ impl Commingled {
     pub fn new() -> Commingled
         ensures { λ r. ⌜ r .pools ≡ empty-pools ⌝ }
     {
-        Commingled { pools: [Pool { total: 0, shares: [0; 64] }; 4] }
+        Commingled {
+            pools: [Pool {
+                total: 0,
+                shares: [0; 64],
+            }; 4],
+        }
     }
 
     /// What is held of an asset for all customers together.

@@ -61,7 +61,13 @@ pub fn check_taking_in(held: u64, customer: u64, asset: u64, amount: u64) -> Res
 }
 
 /// Every refusal of a release, by the units held and the block depth.
-pub fn check_release(held: u64, depth: u8, customer: u64, asset: u64, amount: u64) -> Result<(), Fault>
+pub fn check_release(
+    held: u64,
+    depth: u8,
+    customer: u64,
+    asset: u64,
+    amount: u64,
+) -> Result<(), Fault>
     ensures result { λ r. ⌜ r ≡ passed (releasing held depth customer asset amount) ⌝ }
     ensures granted { λ r. ⌜ (isOk r ≡ true → Known customer asset × (depth ≡ 0) × (amount ≤ held)) ⌝ }
 {

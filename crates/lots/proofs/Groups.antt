@@ -78,9 +78,9 @@ unfolding paid
 next-turn k m g h n rest e r a =
     ⊎-elim
     (λ (t : leb (oldest g) n ≡ true).
-        let left : rest ≡ n - oldest g = let q = rw t at r in cc in
-        let up : h ≡ moved-up g = rw t at a in
-        rw (e, t, up, left) refl)
+    let left : rest ≡ n - oldest g = let q = rw t at r in cc in
+    let up : h ≡ moved-up g = rw t at a in
+    rw (e, t, up, left) refl)
     (λ (t : leb (oldest g) n ≡ false). let z : _≡_ {A = ℕ} 0 1 = let q = rw t at r in cc in absurd (omega arith))
     (cases-bool (leb (oldest g) n))
 
@@ -104,8 +104,8 @@ total-paid-front (suc k) (l ∷ ls) n e h =
     ⊎-elim
     (λ (lt : n < units-of l). rw (lt-leb (units-of l) n lt) (omega (arith, sumBy-cons units-of (lot (units-of l - n)) ls, sumBy-cons units-of l ls)))
     (λ (le : units-of l ≤ n).
-        let rest = total-paid-front k (ls ++ lot 0 ∷ []) (n - units-of l) (simp length-append (omega arith)) (omega (arith, front-behind k ls, sumBy-cons units-of l (take k ls))) in
-        rw (le-leb (units-of l) n le, up) (omega (arith, total-behind ls, sumBy-cons units-of l ls)))
+    let rest = total-paid-front k (ls ++ lot 0 ∷ []) (n - units-of l) (simp length-append (omega arith)) (omega (arith, front-behind k ls, sumBy-cons units-of l (take k ls))) in
+    rw (le-leb (units-of l) n le, up) (omega (arith, total-behind ls, sumBy-cons units-of l ls)))
     (cases-lt n (units-of l))
 
 pub total-paid : (g : List Lot) (n : ℕ) → length g ≡ 8 → n ≤ total g → total (paid 8 g n) ≡ total g - n

@@ -30,10 +30,10 @@ module _ (store : List Lot) (at : ℕ) (g : List Lot) (within : at + 8 ≤ lengt
   eight-other to =
       ⊎-elim
       (λ (l : to + 8 ≤ at).
-          let e : to + 8 - to ≡ 8 = omega arith in
-          let p : eight-at (with-eight store at g) to ≡ drop to (take (to + 8) (with-eight store at g)) = rw e at (between-is (with-eight store at g) to (to + 8)) in
-          let q : eight-at store to ≡ drop to (take (to + 8) store) = rw e at (between-is store to (to + 8)) in
-          p ∙ ap (drop to) (take-putMid-below at 8 store g (to + 8) l (omega arith)) ∙ sym q)
+      let e : to + 8 - to ≡ 8 = omega arith in
+      let p : eight-at (with-eight store at g) to ≡ drop to (take (to + 8) (with-eight store at g)) = rw e at (between-is (with-eight store at g) to (to + 8)) in
+      let q : eight-at store to ≡ drop to (take (to + 8) store) = rw e at (between-is store to (to + 8)) in
+      p ∙ ap (drop to) (take-putMid-below at 8 store g (to + 8) l (omega arith)) ∙ sym q)
       (λ (l : at + 8 ≤ to). ap (take 8) (drop-putMid at 8 store g to l (omega arith) eight))
 
   length-with-eight : length (with-eight store at g) ≡ length store
@@ -44,8 +44,8 @@ places-apart :
 places-apart c a x y k m d =
     ⊎-elim (λ (l : place x y < place c a). inl (omega arith))
     (λ (l : place c a ≤ place x y).
-        ⊎-elim (λ (e : x ≡ c). ⊎-elim (λ (f : y ≡ a). absurd (d e f)) (λ (f : y ≢ a). inr (omega arith)) (cases-eq y a))
-        (λ (e : x ≢ c). inr (omega arith)) (cases-eq x c))
+    ⊎-elim (λ (e : x ≡ c). ⊎-elim (λ (f : y ≡ a). absurd (d e f)) (λ (f : y ≢ a). inr (omega arith)) (cases-eq y a))
+    (λ (e : x ≢ c). inr (omega arith)) (cases-eq x c))
     (cases-lt (place x y) (place c a))
 
 -- ---- one group of a store that is long enough
@@ -73,9 +73,10 @@ pub sound-from : (store : List Lot) (c a : ℕ) → 2048 ≤ length store → to
 sound-from store c a h l = and-from _ _ (le-leb _ _ h) (le-leb _ _ l)
 
 pub bounded : (store : List Lot) → Bounded (held store) (blocked store)
-bounded store c a k =
-    ( cond-both (sound store c a) (total (group store c a)) (ceiling a) (λ n. n ≤ ceiling a) (λ e. sound-parts store c a e .1) (λ _. omega arith)
-    , cond-both (sound store c a) 0 255 (λ n. n ≤ 255) (λ _. omega arith) (λ _. omega arith) )
+bounded store c a k = (
+  cond-both (sound store c a) (total (group store c a)) (ceiling a) (λ n. n ≤ ceiling a) (λ e. sound-parts store c a e .1) (λ _. omega arith),
+  cond-both (sound store c a) 0 255 (λ n. n ≤ 255) (λ _. omega arith) (λ _. omega arith),
+)
 
 -- Another group within the ceiling in its place: one figure is that group's, and no other changes.
 regrouped-figures :
@@ -87,19 +88,19 @@ regrouped-figures store c a g k s eight room =
     let same = group-same store long c a k g eight in
     let s′ : sound (with-group store c a g) c a ≡ true = sound-from (with-group store c a g) c a (omega arith) (rw same room) in
     let both : (x y : ℕ) → Known x y → (held (with-group store c a g) x y ≡ with-figure (held store) c a (total g) x y) × (blocked (with-group store c a g) x y ≡ blocked store x y) =
-        λ x y m.
-        ⊎-elim
-        (λ (ex : x ≡ c).
-            ⊎-elim
-            (λ (ey : y ≡ a). rw (ex, ey) ( rw (s′, same, eq-eqb c c refl, eq-eqb a a refl) refl , rw (s′, s) refl ))
-            (λ (ey : y ≢ a).
-                let other = group-other store long c a k g eight x y m (λ _ f. ey f) in
-                ( rw (other, len, eq-eqb x c ex, ne-eqb y a ey) refl , rw (other, len) refl ))
-            (cases-eq y a))
-        (λ (ex : x ≢ c).
-            let other = group-other store long c a k g eight x y m (λ e _. ex e) in
-            ( rw (other, len, ne-eqb x c ex) refl , rw (other, len) refl ))
-        (cases-eq x c)
+    λ x y m.
+    ⊎-elim
+    (λ (ex : x ≡ c).
+    ⊎-elim
+    (λ (ey : y ≡ a). rw (ex, ey) (rw (s′, same, eq-eqb c c refl, eq-eqb a a refl) refl, rw (s′, s) refl))
+    (λ (ey : y ≢ a).
+    let other = group-other store long c a k g eight x y m (λ _ f. ey f) in
+    (rw (other, len, eq-eqb x c ex, ne-eqb y a ey) refl, rw (other, len) refl))
+    (cases-eq y a))
+    (λ (ex : x ≢ c).
+    let other = group-other store long c a k g eight x y m (λ e _. ex e) in
+    (rw (other, len, ne-eqb x c ex) refl, rw (other, len) refl))
+    (cases-eq x c)
     in
     (λ x y m. both x y m .0, λ x y m. both x y m .1)
 
@@ -111,19 +112,21 @@ pub record Left (r : Result (Unit {0}) Fault) (granted : ℕ → ℕ → ℕ) (s
 
 left-refused : (r : Result (Unit {0}) Fault) (granted : ℕ → ℕ → ℕ) (store after : List Lot) → isOk r ≡ false → after ≡ store → Left r granted store after
 left-refused r granted store after fails same =
-    record
-    { figures = λ x y m. rw (fails, same) refl
-    ; depths = λ x y m. rw same refl
-    ; refused = λ _. same }
+    record {
+      figures = λ x y m. rw (fails, same) refl;
+      depths = λ x y m. rw same refl;
+      refused = λ _. same;
+    }
 
 left-granted :
     (r : Result (Unit {0}) Fault) (granted : ℕ → ℕ → ℕ) (store after : List Lot) → isOk r ≡ true
     → Alike (held after) granted → Alike (blocked after) (blocked store) → Left r granted store after
 left-granted r granted store after ok f d =
-    record
-    { figures = λ x y m. rw ok (f x y m)
-    ; depths = d
-    ; refused = λ no. absurd (both-ways (isOk r) no ok) }
+    record {
+      figures = λ x y m. rw ok (f x y m);
+      depths = d;
+      refused = λ no. absurd (both-ways (isOk r) no ok);
+    }
 
 left-regrouped :
     (r : Result (Unit {0}) Fault) (store after : List Lot) (c a v : ℕ) (g : List Lot) → isOk r ≡ true → Known c a → sound store c a ≡ true
@@ -132,7 +135,7 @@ left-regrouped r store after c a v g ok k s eight sum room is =
     let f = regrouped-figures store c a g k s eight (omega arith) in
     rw is
     (left-granted r (with-figure (held store) c a v) store (with-group store c a g) ok
-        (λ x y m. f .0 x y m ∙ ap (λ n. with-figure (held store) c a n x y) sum) (f .1))
+    (λ x y m. f .0 x y m ∙ ap (λ n. with-figure (held store) c a n x y) sum) (f .1))
 
 held-sound : (store : List Lot) (c a : ℕ) → sound store c a ≡ true → held store c a ≡ total (group store c a)
 held-sound store c a s = rw s refl
@@ -143,20 +146,20 @@ pub left-stored :
 left-stored store c a n r after er ea =
     ⊎-elim
     (λ (ok : isOk (taken (held store) c a n) ≡ true).
-        let t = taken-tells (held store) c a n ok in
-        ⊎-elim
-        (λ (s : sound store c a ≡ true).
-            let eight : length (group store c a) ≡ 8 = length-group store (sound-parts store c a s .0) c a (t .0) in
-            left-regrouped r store after c a (held store c a + n) (added (group store c a) n) (ap isOk er ∙ ok) (t .0) s
-            (length-added (group store c a) n ∙ eight)
-            (omega (arith, total-added (group store c a) eight n, held-sound store c a s)) (t .2) (ea ∙ rw (ok, s) refl))
-        (λ (s : sound store c a ≡ false).
-            let full : held store c a ≡ ceiling a = rw s refl in
-            let is : after ≡ store = ea ∙ rw (ok, s) refl in
-            rw is
-            (left-granted r (raised (held store) c a n) store store (ap isOk er ∙ ok)
-                (λ x y m. sym (with-figure-same (held store) c a (held store c a + n) x y (omega (arith, t .2)))) (λ x y m. refl)))
-        (cases-bool (sound store c a)))
+    let t = taken-tells (held store) c a n ok in
+    ⊎-elim
+    (λ (s : sound store c a ≡ true).
+    let eight : length (group store c a) ≡ 8 = length-group store (sound-parts store c a s .0) c a (t .0) in
+    left-regrouped r store after c a (held store c a + n) (added (group store c a) n) (ap isOk er ∙ ok) (t .0) s
+    (length-added (group store c a) n ∙ eight)
+    (omega (arith, total-added (group store c a) eight n, held-sound store c a s)) (t .2) (ea ∙ rw (ok, s) refl))
+    (λ (s : sound store c a ≡ false).
+    let full : held store c a ≡ ceiling a = rw s refl in
+    let is : after ≡ store = ea ∙ rw (ok, s) refl in
+    rw is
+    (left-granted r (raised (held store) c a n) store store (ap isOk er ∙ ok)
+    (λ x y m. sym (with-figure-same (held store) c a (held store c a + n) x y (omega (arith, t .2)))) (λ x y m. refl)))
+    (cases-bool (sound store c a)))
     (λ (fails : isOk (taken (held store) c a n) ≡ false). left-refused r (raised (held store) c a n) store after (ap isOk er ∙ fails) (ea ∙ rw fails refl))
     (cases-bool (isOk (taken (held store) c a n)))
 
@@ -166,15 +169,15 @@ pub left-drawn :
 left-drawn store c a n r after er ea =
     ⊎-elim
     (λ (ok : isOk (released (held store) (blocked store) c a n) ≡ true).
-        let t = released-tells (held store) (blocked store) c a n ok in
-        ⊎-elim
-        (λ (s : sound store c a ≡ true).
-            let eight : length (group store c a) ≡ 8 = length-group store (sound-parts store c a s .0) c a (t .0) in
-            let h = held-sound store c a s in
-            left-regrouped r store after c a (held store c a - n) (paid 8 (group store c a) n) (ap isOk er ∙ ok) (t .0) s
-            (length-paid 8 (group store c a) n eight)
-            (omega (arith, total-paid (group store c a) n eight (omega (arith, t .3)))) (omega (arith, sound-parts store c a s .1)) (ea ∙ rw ok refl))
-        (λ (s : sound store c a ≡ false). let b : blocked store c a ≡ 255 = rw s refl in absurd (omega (arith, t .2)))
-        (cases-bool (sound store c a)))
+    let t = released-tells (held store) (blocked store) c a n ok in
+    ⊎-elim
+    (λ (s : sound store c a ≡ true).
+    let eight : length (group store c a) ≡ 8 = length-group store (sound-parts store c a s .0) c a (t .0) in
+    let h = held-sound store c a s in
+    left-regrouped r store after c a (held store c a - n) (paid 8 (group store c a) n) (ap isOk er ∙ ok) (t .0) s
+    (length-paid 8 (group store c a) n eight)
+    (omega (arith, total-paid (group store c a) n eight (omega (arith, t .3)))) (omega (arith, sound-parts store c a s .1)) (ea ∙ rw ok refl))
+    (λ (s : sound store c a ≡ false). let b : blocked store c a ≡ 255 = rw s refl in absurd (omega (arith, t .2)))
+    (cases-bool (sound store c a)))
     (λ (fails : isOk (released (held store) (blocked store) c a n) ≡ false). left-refused r (lowered (held store) c a n) store after (ap isOk er ∙ fails) (ea ∙ rw fails refl))
     (cases-bool (isOk (released (held store) (blocked store) c a n)))

@@ -43,7 +43,9 @@ fn grow(lot: Lot, amount: u64) -> Lot
     requires { ⌜ lot .units + amount < 2 ^ 64 ⌝ }
     ensures { λ r. ⌜ r ≡ grown lot amount ⌝ }
 {
-    Lot { units: lot.units + amount }
+    Lot {
+        units: lot.units + amount,
+    }
 }
 
 /// Units come in: a new lot, or more in the newest.
@@ -73,7 +75,9 @@ fn pay_oldest(group: &mut [Lot], amount: u64) -> Option<u64>
 {
     let first = group[0].units;
     if amount < first {
-        group[0] = Lot { units: first - amount };
+        group[0] = Lot {
+            units: first - amount,
+        };
         return None;
     }
     move_up(group);

@@ -5,6 +5,7 @@ ghost use denote.Ref.{now as behind};
 ghost use Rattle.std.specs.Results.{Cases, isOk};
 ghost use Rattle.refusals.specs.declared.Refusal.the-variants.{FewLots};
 ghost use Rattle.refusals.specs.Refusals.{fault};
+ghost use Rattle.lots.specs.Queues.{First-in-first-out};
 ghost use Rattle.lots.specs.Stores.{is-store, cleared, held, blocked, stored, drawn};
 use custody::Custody;
 use refusals::Fault;
@@ -29,6 +30,7 @@ impl<'a> Lots<'a> {
     pub fn new(store: &'a mut [Lot]) -> Result<Lots<'a>, Fault>
         ensures made { λ r. ⌜ isOk r ≡ is-store (now (store .entry)) ⌝ }
         ensures store { λ r. ⌜ Cases r (λ l. behind (l .store) ≡ cleared (now (store .entry))) (λ f. f ≡ fault FewLots 0) ⌝ }
+        ensures queues { λ r. ⌜ Cases r (λ l. First-in-first-out (behind (l .store))) (λ _. Unit {0}) ⌝ }
     {
         prepare(store)?;
         Ok(Lots { store })

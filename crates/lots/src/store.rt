@@ -90,7 +90,12 @@ pub(crate) fn ask(store: &[Lot], customer: u64, asset: u64) -> Result<(u64, u8),
     Ok(figures(store, customer, asset))
 }
 
-pub(crate) fn take_units(store: &mut [Lot], customer: u64, asset: u64, amount: u64) -> Result<(), Fault>
+pub(crate) fn take_units(
+    store: &mut [Lot],
+    customer: u64,
+    asset: u64,
+    amount: u64,
+) -> Result<(), Fault>
     ensures result { λ r. ⌜ r ≡ taken (held (now (store .entry))) customer asset amount ⌝ }
     ensures after { λ _. ⌜ now (store .exit) ≡ stored (now (store .entry)) customer asset amount ⌝ }
 {
@@ -111,7 +116,12 @@ fn check_draw(store: &[Lot], customer: u64, asset: u64, amount: u64) -> Result<(
     check_release(units, depth, customer, asset, amount)
 }
 
-pub(crate) fn release_units(store: &mut [Lot], customer: u64, asset: u64, amount: u64) -> Result<(), Fault>
+pub(crate) fn release_units(
+    store: &mut [Lot],
+    customer: u64,
+    asset: u64,
+    amount: u64,
+) -> Result<(), Fault>
     ensures result { λ r. ⌜ r ≡ released (held (now (store .entry))) (blocked (now (store .entry))) customer asset amount ⌝ }
     ensures after { λ _. ⌜ now (store .exit) ≡ drawn (now (store .entry)) customer asset amount ⌝ }
 {

@@ -46,7 +46,10 @@ impl<C: Custody> Reconciliation<C> {
         ensures held { λ r. ⌜ r .below ≡ below ⌝ }
         ensures unmarked { λ r. ⌜ r .breaks ≡ replicate 256 false ⌝ }
     {
-        Reconciliation { below, breaks: [false; 256] }
+        Reconciliation {
+            below,
+            breaks: [false; 256],
+        }
     }
 
     /// Takes what the custodian states, and answers stated less held.
@@ -75,7 +78,10 @@ pub impl<C: Custody> Custody for Reconciliation<C> as ReconciliationCustody {
 
     fn question(&self, customer: u64, asset: u64) -> Result<(u64, u8), Fault> {
         let (held, depth) = self.below.question(customer, asset)?;
-        Ok((held, depth_over(self.breaks[spot_of(customer, asset)], depth)))
+        Ok((
+            held,
+            depth_over(self.breaks[spot_of(customer, asset)], depth),
+        ))
     }
 
     fn take_in(&mut self, customer: u64, asset: u64, amount: u64) -> Result<(), Fault> {

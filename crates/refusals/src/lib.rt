@@ -73,14 +73,24 @@ impl Fault {
     pub fn of(refusal: Refusal, customer: u64) -> Fault
         ensures { λ r. ⌜ r ≡ fault refusal customer ⌝ }
     {
-        Fault { refusal, customer, asset: 0, place: 0 }
+        Fault {
+            refusal,
+            customer,
+            asset: 0,
+            place: 0,
+        }
     }
 
     /// A fault of one asset of a customer.
     pub fn at(refusal: Refusal, customer: u64, asset: u64, place: u64) -> Fault
         ensures { λ r. ⌜ r ≡ fault-at refusal customer asset place ⌝ }
     {
-        Fault { refusal, customer, asset, place }
+        Fault {
+            refusal,
+            customer,
+            asset,
+            place,
+        }
     }
 }
 
@@ -88,7 +98,11 @@ impl Fault {
 pub fn limit(asset: u64) -> u64
     ensures { λ r. ⌜ r ≡ ceiling asset ⌝ }
 {
-    if asset == 1 { 100_000_000_000_000_000 } else { 1_000_000_000 }
+    if asset == 1 {
+        100_000_000_000_000_000
+    } else {
+        1_000_000_000
+    }
 }
 
 /// Refuses a customer that there is not.

@@ -6,10 +6,11 @@ pub lower-requires : need.lower-requires
 lower-requires c κs =
     let s = c .args .self .now in
     let k = c .pre .known in
-    record
-    { customer = (k .0, k .1)
-    ; total = omega (arith, share-in-total (s .pools) (s .shared) (s .summed) (c .args .customer) (c .args .asset) k)
-    ; share = c .pre .held }
+    record {
+      customer = (k .0, k .1);
+      total = omega (arith, share-in-total (s .pools) (s .shared) (s .summed) (c .args .customer) (c .args .asset) k);
+      share = c .pre .held;
+    }
 
 pub ghost-self : need.ghost-self
 ghost-self c =
@@ -18,4 +19,4 @@ ghost-self c =
     let part = share-in-total (s .pools) (s .shared) (s .summed) (c .args .customer) (c .args .asset) k in
     rw (c .lower .ensures)
     (replaced-sound (s .pools) (c .args .customer) (c .args .asset) _ _ (s .four) (s .shared) (s .summed) (s .capped) k
-        (omega (arith, s .capped (c .args .customer) (c .args .asset) k)) (omega arith))
+    (omega (arith, s .capped (c .args .customer) (c .args .asset) k)) (omega arith))

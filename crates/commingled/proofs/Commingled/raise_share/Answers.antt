@@ -7,10 +7,11 @@ pub raise-requires : need.raise-requires
 raise-requires c κs =
     let s = c .args .self .now in
     let k = c .pre .known in
-    record
-    { customer = (k .0, k .1)
-    ; total = omega (arith, total-most (s .pools) (s .shared) (s .summed) (s .capped) (c .args .asset) (k .2) (k .3), ceiling-most (c .args .asset))
-    ; share = omega (arith, ceiling-most (c .args .asset), c .pre .room) }
+    record {
+      customer = (k .0, k .1);
+      total = omega (arith, total-most (s .pools) (s .shared) (s .summed) (s .capped) (c .args .asset) (k .2) (k .3), ceiling-most (c .args .asset));
+      share = omega (arith, ceiling-most (c .args .asset), c .pre .room);
+    }
 
 pub ghost-self : need.ghost-self
 ghost-self c =
