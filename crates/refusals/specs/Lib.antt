@@ -1,3 +1,4 @@
 pub mod Refusals
 pub mod Checks
 pub mod Ranges
+pub mod Shown

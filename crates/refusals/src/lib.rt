@@ -1,15 +1,18 @@
-//! Why a call is turned down, and the ranges that are tested before anything else.
+//! Why a call is turned down, and the ranges that come before anything else.
 //! This crate knows no other: every fault of the ledger is made of what stands here.
 ghost use mathlib.Core.Path.{_≡_};
 ghost use mathlib.Core.Bool.{true};
 ghost use mathlib.Core.List.{[], _∷_};
 ghost use Prim.Native.Nat.{_≤_, _^_};
 ghost use Rattle.std.specs.Results.{isOk};
+ghost use Rattle.std.specs.declared.option.Option.the-variants.{Some};
+ghost use Rattle.refusals.specs.Shown.{shown-fault};
 ghost use Rattle.refusals.specs.Refusals.{number, fault, fault-at};
 ghost use Rattle.refusals.specs.Checks.{passed};
 ghost use Rattle.refusals.specs.Ranges.{Known, ceiling, customer-check, asset-check, contract-check, units-check, name-checks, range-checks};
+use std::fmt;
 
-/// The reasons for a refusal, in the order in which they are tested.
+/// The reasons for a refusal, in the order in which they are looked for.
 #[derive(Clone, Copy, PartialEq, Eq, Debug)]
 pub enum Refusal {
     /// The line has no listed form.
@@ -33,7 +36,7 @@ pub enum Refusal {
     NotCovered,
     /// The debt or the unsettled result is not 0.
     NotSettled,
-    /// The store has too few lots; tested before anything is made.
+    /// The store has too few lots; looked for before anything is made.
     FewLots,
 }
 
@@ -91,6 +94,22 @@ impl Fault {
             asset,
             place,
         }
+    }
+}
+
+/// Its number and its other parts in words.
+pub impl fmt::Display for Fault as FaultDisplay {
+    ghost shown = { λ f. Some (shown-fault f) };
+
+    fn fmt<W: fmt::Write>(&self, f: &mut fmt::Formatter<W>) -> fmt::Result {
+        let number = self.refusal.code();
+        let customer = self.customer;
+        let asset = self.asset;
+        let place = self.place;
+        write!(
+            f,
+            "refusal {number}, customer {customer}, asset {asset}, place {place}"
+        )
     }
 }
 
