@@ -78,10 +78,8 @@ pub impl<C: Custody> Custody for Reconciliation<C> as ReconciliationCustody {
 
     fn question(&self, customer: u64, asset: u64) -> Result<(u64, u8), Fault> {
         let (held, depth) = self.below.question(customer, asset)?;
-        Ok((
-            held,
-            depth_over(self.breaks[spot_of(customer, asset)], depth),
-        ))
+        let mark = self.breaks[spot_of(customer, asset)];
+        Ok((held, depth_over(mark, depth)))
     }
 
     fn take_in(&mut self, customer: u64, asset: u64, amount: u64) -> Result<(), Fault> {

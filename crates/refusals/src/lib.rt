@@ -62,7 +62,7 @@ impl Refusal {
     }
 }
 
-/// A refusal, the customer and asset concerned and the place, each 0 where none is named.
+/// A refusal, the customer and asset concerned and the place; each is 0 where none is named.
 #[derive(Clone, Copy, PartialEq, Eq, Debug)]
 pub struct Fault {
     pub refusal: Refusal,
@@ -76,12 +76,7 @@ impl Fault {
     pub fn of(refusal: Refusal, customer: u64) -> Fault
         ensures { λ r. ⌜ r ≡ fault refusal customer ⌝ }
     {
-        Fault {
-            refusal,
-            customer,
-            asset: 0,
-            place: 0,
-        }
+        Fault::at(refusal, customer, 0, 0)
     }
 
     /// A fault of one asset of a customer.
