@@ -60,17 +60,23 @@ fn lower(pool: Pool, customer: u64, amount: u64) -> Pool
     }
 }
 
+/// The four pools at making.
+fn empty() -> [Pool; 4]
+    ensures { λ r. ⌜ r ≡ empty-pools ⌝ }
+{
+    let pool = Pool {
+        total: 0,
+        shares: [0; 64],
+    };
+    [pool; 4]
+}
+
 impl Commingled {
     /// An account that holds nothing.
     pub fn new() -> Commingled
         ensures { λ r. ⌜ r .pools ≡ empty-pools ⌝ }
     {
-        Commingled {
-            pools: [Pool {
-                total: 0,
-                shares: [0; 64],
-            }; 4],
-        }
+        Commingled { pools: empty() }
     }
 
     /// What is held of an asset for all customers together.

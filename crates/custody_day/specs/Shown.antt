@@ -7,10 +7,10 @@ use Rattle.std.specs.declared.result.Result.{Result}
 use Rattle.std.specs.declared.result.Result.the-variants.{Ok, Err}
 use Rattle.refusals.specs.declared.Fault.{Fault}
 use Rattle.refusals.specs.Shown.{shown-fault}
-use Rattle.custody_day.specs.declared.Step.{Step}
-use Rattle.custody_day.specs.declared.Step.the-variants.{TakeIn, Release, Statement, Question}
-use Rattle.custody_day.specs.declared.Answer.{Answer}
-use Rattle.custody_day.specs.declared.Answer.the-variants.{Done, Difference, Holding}
+use Rattle.custody_day.specs.declared.steps.Step.{Step}
+use Rattle.custody_day.specs.declared.steps.Step.the-variants.{TakeIn, Release, Statement, Question}
+use Rattle.custody_day.specs.declared.steps.Answer.{Answer}
+use Rattle.custody_day.specs.declared.steps.Answer.the-variants.{Done, Difference, Holding}
 
 abbrev pub of-whom : ℕ → ℕ → List ℕ
 of-whom c a = codes " of asset " ++ (decimal a ++ (codes " for customer " ++ decimal c))

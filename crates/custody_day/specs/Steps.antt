@@ -1,17 +1,21 @@
 -- What a step of a custody day answers, and what it leaves.
 use Prim.Native.Nat.{ℕ}
-use mathlib.Core.Bool.{Bool}
+use mathlib.Core.Bool.{Bool, true, false}
 use mathlib.Core.List.{List, [], _∷_}
+use mathlib.Core.Path.{_≡_}
+use Rattle.std.specs.Results.{isOk}
 use Rattle.std.specs.declared.result.Result.{Result}
 use Rattle.std.specs.declared.result.Result.the-variants.{Ok, Err}
 use Rattle.refusals.specs.declared.Fault.{Fault}
-use Rattle.custody.specs.Meaning.{Figures, answered, taken, released, raised, lowered, if-granted}
-use Rattle.custody.specs.Movements.{Movement, taking, release}
-use Rattle.reconciliation.specs.Breaks.{stating, marks-after}
-use Rattle.custody_day.specs.declared.Step.{Step}
-use Rattle.custody_day.specs.declared.Step.the-variants.{TakeIn, Release, Statement, Question}
-use Rattle.custody_day.specs.declared.Answer.{Answer}
-use Rattle.custody_day.specs.declared.Answer.the-variants.{Done, Difference, Holding}
+use Rattle.custody.specs.declared.Custody.{Ghosts as Custodian}
+use Rattle.custody.specs.Meaning.{Figures, Alike, answered, taken, released, raised, lowered, if-granted}
+use Rattle.custody.specs.Movements.{Movement, taking, release, Moves}
+use Rattle.reconciliation.specs.declared.Reconciliation.{Reconciliation}
+use Rattle.reconciliation.specs.Breaks.{depths-over, stating, marks-after}
+use Rattle.custody_day.specs.declared.steps.Step.{Step}
+use Rattle.custody_day.specs.declared.steps.Step.the-variants.{TakeIn, Release, Statement, Question}
+use Rattle.custody_day.specs.declared.steps.Answer.{Answer}
+use Rattle.custody_day.specs.declared.steps.Answer.the-variants.{Done, Difference, Holding}
 
 -- The answer of a granted call, or its fault.
 abbrev pub with-answer : {X : Type 0} → (X → Answer) → Result X Fault → Result Answer Fault
@@ -45,3 +49,20 @@ movements (TakeIn c a n) = taking c a n ∷ []
 movements (Release c a n) = release c a n ∷ []
 movements (Statement c a n) = []
 movements (Question c a) = []
+
+-- ---- a step over a reconciled custody
+-- The units held and the block depths that it shows.
+abbrev pub held-in : {C : Type 0} → Custodian C → Reconciliation C → Figures
+held-in g k = g .units (k .below)
+
+abbrev pub depths-in : {C : Type 0} → Custodian C → Reconciliation C → Figures
+depths-in g k = depths-over (k .breaks) (g .depth (k .below))
+
+-- The step s was answered with r, and left the custody k as t.
+pub record Stepped {C : Type 0} (g : Custodian C) (k : Reconciliation C) (s : Step) (r : Result Answer Fault) (t : Reconciliation C) : Type 0 where
+  pub result : r ≡ performed (held-in g k) (depths-in g k) s
+  pub figures : Alike (held-in g t) (held-after (held-in g k) (depths-in g k) s)
+  pub depths : Alike (g .depth (t .below)) (g .depth (k .below))
+  pub marks : t .breaks ≡ breaks-after (held-in g k) (k .breaks) s
+  pub moved : isOk r ≡ true → Moves g (k .below) (movements s) (t .below)
+  pub refused : isOk r ≡ false → t ≡ k

@@ -8,7 +8,8 @@ use native.Mathlib.Omega.{arith}
 use lib.Dec.{eqb, leb, ltb}
 use lib.ListN.{length, getD, set, take, drop, replicate}
 use Rattle.std.specs.Results.{isOk}
-use Rattle.std.specs.declared.result.Result.the-variants.{Ok}
+use Rattle.std.specs.declared.result.Result.{Result}
+use Rattle.refusals.specs.declared.Fault.{Fault}
 use Rattle.std.specs.shelf.Lists.{sum, All, leading}
 use Rattle.std.proofs.shelf.Tests.{cases-lt, cases-bool, cases-eq, eq-eqb, ne-eqb, le-leb, lt-leb, lt-ltb, le-ltb, ltb-true, leb-true, leb-false, eqb-true, and-parts, cond-both, both-ways}
 use Rattle.std.proofs.shelf.Lists.{getD-past, set-getD, length-append, length-set, length-replicate, drop-replicate, take-replicate}
@@ -305,13 +306,13 @@ cleared-queues n long ms c a k =
     })
 
 -- So does every store that is made.
-pub made-store :
-    (store after : List Lot) (z : Unit {0}) → Ok z ≡ prepared store → after ≡ cleared store
-    → (true ≡ is-store store) × First-in-first-out after
-made-store store after z ok is =
+pub made-queues :
+    (store after : List Lot) (r : Result (Unit {0}) Fault) → r ≡ prepared store → after ≡ cleared store → isOk r ≡ true
+    → First-in-first-out after
+made-queues store after r er ea ok =
     ⊎-elim
     (λ (t : is-store store ≡ true).
-    let whole : after ≡ replicate (length store) (lot 0) = is ∙ rw t refl in
-    (sym t, rw whole (cleared-queues (length store) (leb-true 2048 (length store) t))))
-    (λ (t : is-store store ≡ false). let z : _≡_ {A = ℕ} 0 1 = let e = rw t at ok in cc in absurd (omega arith))
+    let whole : after ≡ replicate (length store) (lot 0) = ea ∙ rw t refl in
+    rw whole (cleared-queues (length store) (leb-true 2048 (length store) t)))
+    (λ (t : is-store store ≡ false). let fails : isOk r ≡ false = ap isOk er ∙ rw t refl in absurd (both-ways (isOk r) fails ok))
     (cases-bool (is-store store))

@@ -10,6 +10,7 @@ ghost use Rattle.lots.specs.Stores.{is-store, cleared, held, blocked, stored, 
 use custody::Custody;
 use refusals::Fault;
 use store::ask;
+use store::prepare_queues;
 use store::release_units;
 use store::take_units;
 
@@ -32,7 +33,7 @@ impl<'a> Lots<'a> {
         ensures store { λ r. ⌜ Cases r (λ l. behind (l .store) ≡ cleared (now (store .entry))) (λ f. f ≡ fault FewLots 0) ⌝ }
         ensures queues { λ r. ⌜ Cases r (λ l. First-in-first-out (behind (l .store))) (λ _. Unit {0}) ⌝ }
     {
-        prepare(store)?;
+        prepare_queues(store)?;
         Ok(Lots { store })
     }
 }

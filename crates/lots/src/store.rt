@@ -8,6 +8,7 @@ ghost use Rattle.std.specs.Results.{isOk};
 ghost use Rattle.refusals.specs.Ranges.{Known};
 ghost use Rattle.custody.specs.Meaning.{answered, taken, released};
 ghost use Rattle.lots.specs.Groups.{lot, total, added, paid};
+ghost use Rattle.lots.specs.Queues.{First-in-first-out};
 ghost use Rattle.lots.specs.Stores.{place, eight-at, with-eight, prepared, cleared, held, blocked, stored, drawn};
 use crate::group::Lot;
 use crate::group::add_to;
@@ -41,6 +42,15 @@ pub fn prepare(store: &mut [Lot]) -> Result<(), Fault>
     }
     clear(store);
     Ok(())
+}
+
+/// The same. From then on the lots of each customer and asset are a queue.
+pub(crate) fn prepare_queues(store: &mut [Lot]) -> Result<(), Fault>
+    ensures result { λ r. ⌜ r ≡ prepared (now (store .entry)) ⌝ }
+    ensures after { λ _. ⌜ now (store .exit) ≡ cleared (now (store .entry)) ⌝ }
+    ensures queues { λ r. ⌜ (isOk r ≡ true → First-in-first-out (now (store .exit))) ⌝ }
+{
+    prepare(store)
 }
 
 fn place_of(customer: u64, asset: u64) -> usize

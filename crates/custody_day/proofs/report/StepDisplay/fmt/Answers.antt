@@ -1,4 +1,4 @@
-use Rattle.custody_day.proofs.StepDisplay.fmt.Needs as need
+use Rattle.custody_day.proofs.report.StepDisplay.fmt.Needs as need
 
 pub returns-in-TakeIn : need.returns-in-TakeIn
 returns-in-TakeIn g c = rw (c .in-TakeIn .is) (c .write .ensures .shows)

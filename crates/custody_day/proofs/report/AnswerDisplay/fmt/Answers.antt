@@ -2,7 +2,7 @@ use borrow.Author.Needs.{needs}
 use mathlib.Core.Path.{_≡_}
 use mir.Syntax.{w64}
 use mir.Val.{toZ, ofZ}
-use Rattle.custody_day.proofs.AnswerDisplay.fmt.Needs as need
+use Rattle.custody_day.proofs.report.AnswerDisplay.fmt.Needs as need
 
 pub returns-in-Difference : need.returns-in-Difference
 returns-in-Difference g c =
