@@ -2,10 +2,9 @@
 //! It knows the custody interface and the refusals.
 ghost use mathlib.Core.Path.{_≡_};
 ghost use Prim.Native.Nat.{_+_, _-_, _^_, _≤_, _<_};
-ghost use lib.ListN.{length};
 ghost use Rattle.refusals.specs.Ranges.{Known, ceiling};
 ghost use Rattle.custody.specs.Meaning.{Alike, raised, lowered};
-ghost use Rattle.commingled.specs.Pools.{share, share-in, pool-of, empty-pools, raised-pool, lowered-pool, raised-pools, lowered-pools, totalled, Four, Shared, Summed, Capped};
+ghost use Rattle.commingled.specs.Pools.{share, share-in, empty-pools, raised-pool, lowered-pool, raised-pools, lowered-pools, totalled, Four, Shared, Summed, Capped};
 use custody::Custody;
 use custody::check_release;
 use custody::check_taking_in;

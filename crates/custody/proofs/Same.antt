@@ -1,16 +1,15 @@
 -- Figures that are alike for each customer and asset give the same answers, and are alike after the same call.
-use Prim.Native.Nat.{ℕ, _+_, _-_}
-use mathlib.Core.Path.{_≡_, refl, sym, ap, _∙_}
-use mathlib.Core.Bool.{Bool, true, false, cond, _&&_}
+use Prim.Native.Nat.{ℕ, _-_}
+use mathlib.Core.Path.{_≡_, refl, ap, _∙_}
+use mathlib.Core.Bool.{true, false, cond, _&&_}
 use mathlib.Core.Logic.{⊎-elim}
 use lib.Dec.{eqb, leb}
 use Rattle.std.specs.Results.{isOk}
 use Rattle.std.specs.declared.result.Result.{Result}
-use Rattle.std.specs.declared.result.Result.the-variants.{Err}
 use Rattle.std.proofs.shelf.Tests.{cases-bool, and-parts, leb-true, eqb-true}
 use Rattle.refusals.specs.declared.Fault.{Fault}
 use Rattle.refusals.specs.Ranges.{Known, is-customer, is-asset}
-use Rattle.custody.specs.Meaning.{Figures, Alike, answered, taken, released, with-figure, raised, lowered, if-granted}
+use Rattle.custody.specs.Meaning.{Figures, Alike, answered, taken, released, with-figure, if-granted}
 
 -- What comes after the names is the same if it is the same of a known customer and asset.
 pub named-same :

@@ -1,6 +1,5 @@
 -- Movements of units, in their order.
 use Prim.Native.Nat.{ℕ}
-use mathlib.Core.Bool.{Bool, true, false}
 use mathlib.Core.List.{List, [], _∷_}
 use mathlib.Core.Path.{_≡_}
 use Rattle.custody.specs.declared.Custody.{Ghosts as Custodian}

@@ -3,7 +3,7 @@
 //! This crate knows the refusals, and no implementation.
 ghost use mathlib.Core.Path.{_≡_};
 ghost use mathlib.Core.Bool.{true, false};
-ghost use Prim.Native.Nat.{ℕ, _+_, _≤_, _^_};
+ghost use Prim.Native.Nat.{ℕ, _+_, _≤_};
 ghost use Rattle.std.specs.Results.{isOk};
 ghost use Rattle.refusals.specs.Checks.{passed};
 ghost use Rattle.refusals.specs.Ranges.{Known, ceiling};

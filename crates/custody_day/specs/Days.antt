@@ -1,14 +1,15 @@
 -- The text of a day: what the rules make of its steps, told one line each.
 use Prim.Native.Nat.{ℕ, _+_}
 use mathlib.Core.Bool.{Bool}
+use mathlib.Core.List.{List, [], _∷_, _++_}
 use mathlib.Core.Path.{_≡_}
+use lib.ListN.{take}
 use Rattle.std.specs.declared.result.Result.{Result}
 use Rattle.refusals.specs.declared.Fault.{Fault}
-use mathlib.Core.List.{List, [], _∷_, _++_}
-use Rattle.custody.specs.Meaning.{Figures}
-use Rattle.reconciliation.specs.Breaks.{depths-over}
 use Rattle.custody.specs.declared.Custody.{Ghosts as Custodian}
+use Rattle.custody.specs.Meaning.{Figures}
 use Rattle.reconciliation.specs.declared.Reconciliation.{Reconciliation}
+use Rattle.reconciliation.specs.Breaks.{depths-over}
 use Rattle.custody_day.specs.declared.steps.Step.{Step}
 use Rattle.custody_day.specs.declared.steps.Answer.{Answer}
 use Rattle.custody_day.specs.Steps.{performed, held-after, breaks-after, Stepped}
@@ -30,13 +31,11 @@ told held deep breaks number (step ∷ steps) =
 abbrev pub told-of : {C : Type 0} → Custodian C → Reconciliation C → ℕ → List Step → List ℕ
 told-of g k number steps = told (g .units (k .below)) (g .depth (k .below)) (k .breaks) number steps
 
--- One step was performed, and its line added to a text.
-pub record Lined {C : Type 0} (g : Custodian C) (before : List ℕ) (k : Reconciliation C) (number : ℕ) (s : Step) (after : List ℕ) (t : Reconciliation C) : Type 0 where
-  pub outcome : Result Answer Fault
-  pub stepped : Stepped g k s outcome t
-  pub written : after ≡ before ++ line-of number s outcome
-
 -- The custody k became t by these steps, in their order.
 abbrev pub Went : {C : Type 0} → Custodian C → Reconciliation C → List Step → Reconciliation C → Type 0
 Went g k [] t = t ≡ k
 Went {C} g k (s ∷ ss) t = (r : Result Answer Fault) × (j : Reconciliation C) × Stepped g k s r j × Went g j ss t
+
+-- Only the first of these steps were performed, however many.
+abbrev pub Went-in-part : {C : Type 0} → Custodian C → Reconciliation C → List Step → Reconciliation C → Type 0
+Went-in-part g k steps t = (n : ℕ) × Went g k (take n steps) t

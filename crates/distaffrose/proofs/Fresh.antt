@@ -1,5 +1,4 @@
 -- A day over an account that was just made begins with nothing held, nothing blocked and no mark.
-use Prim.Native.Nat.{ℕ}
 use mathlib.Core.Bool.{Bool, false}
 use mathlib.Core.List.{List, [], _∷_}
 use mathlib.Core.Path.{_≡_, refl, ap, _∙_}

@@ -6,12 +6,11 @@ use mathlib.Core.Logic.{⊎-elim, _≢_}
 use mathlib.Core.Bool.{true, false, cond}
 use native.Mathlib.Omega.{arith}
 use lib.Dec.{leb}
-use lib.ListN.{length, getD, set, take, drop}
+use lib.ListN.{length, getD, take, drop}
 use Rattle.std.specs.shelf.Lists.{leading}
-use Rattle.std.specs.declared.option.Option.{Option}
 use Rattle.std.specs.declared.option.Option.the-variants.{Some, None}
-use Rattle.std.proofs.shelf.Lists.{take-all, getD-take, length-take-le, set-at, length-set, length-append, length-drop}
-use Rattle.std.proofs.shelf.Sums.{sumBy-set, sumBy-append, sumBy-cons, leading-drop-yes, leading-drop-no, leading-drop-all, leading-le-length}
+use Rattle.std.proofs.shelf.Lists.{take-all, getD-take, length-take-le, set-at, length-set, length-append}
+use Rattle.std.proofs.shelf.Sums.{sumBy-set, sumBy-append, sumBy-cons, leading-drop-yes, leading-drop-no, leading-le-length}
 use Rattle.std.proofs.shelf.Tests.{eq-eqb, ne-eqb, le-leb, lt-leb, cases-lt, cases-bool, cond-both}
 use Rattle.lots.specs.Groups.{lot, units-of, total, used, lot-for-more, grown, added, oldest, moved-up, opened, paid}
 use Rattle.lots.specs.declared.group.Lot.{Lot}
@@ -30,9 +29,6 @@ module _ (g : List Lot) (eight : length g ≡ 8) where
   stop-at i h none =
       leading-drop-no used (take 7 g) i (lot 0) (omega (arith, seven))
       (rw (getD-take 7 g i (lot 0) h, eq-eqb (units-of (getD g i (lot 0))) 0 none) refl)
-
-  pub none-left : leading used (drop 7 (take 7 g)) ≡ 0
-  none-left = leading-drop-all used (take 7 g) 7 (omega (arith, seven))
 
   lot-for-more-within : lot-for-more g < 8
   lot-for-more-within = omega (arith, leading-le-length used (take 7 g), seven)

@@ -1,12 +1,12 @@
 -- The lots of a store are queues, whatever movements come.
-use Prim.Native.Nat.{ℕ, _+_, _-_, _≤_, _<_, zero, suc, min, _^_}
+use Prim.Native.Nat.{ℕ, _+_, _-_, _≤_, _<_, zero, suc, min}
 use mathlib.Core.Path.{_≡_, refl, sym, ap, _∙_}
 use mathlib.Core.List.{List, [], _∷_, _++_}
 use mathlib.Core.Logic.{⊎-elim, inl, inr, _≢_}
 use mathlib.Core.Bool.{Bool, true, false, cond, _&&_}
 use native.Mathlib.Omega.{arith}
 use lib.Dec.{eqb, leb, ltb}
-use lib.ListN.{length, getD, set, take, drop, replicate}
+use lib.ListN.{length, getD, set, take, replicate}
 use Rattle.std.specs.Results.{isOk}
 use Rattle.std.specs.declared.result.Result.{Result}
 use Rattle.refusals.specs.declared.Fault.{Fault}
@@ -20,7 +20,7 @@ use Rattle.custody.specs.Meaning.{taken, released}
 use Rattle.custody.specs.Movements.{Movement, taking, release}
 use Rattle.custody.proofs.Outcomes.{taken-tells, released-tells, taken-is, released-is}
 use Rattle.lots.specs.declared.group.Lot.{Lot}
-use Rattle.lots.specs.Groups.{lot, units-of, total, used, lot-for-more, grown, added, oldest, moved-up, opened, paid}
+use Rattle.lots.specs.Groups.{lot, units-of, total, used, lot-for-more, added, moved-up, paid}
 use Rattle.lots.specs.Stores.{is-store, prepared, cleared, place, group, with-group, sound, held, blocked, stored, drawn}
 use Rattle.lots.specs.Queues.{joined, left, queue-after, queue, lots-of, store-after, stores, Shows, First-in-first-out}
 use Rattle.lots.proofs.Groups.{moved-up-is, length-added, length-paid, total-added, total-paid}

@@ -3,9 +3,9 @@ ghost use mathlib.Core.Path.{_≡_};
 ghost use mathlib.Core.Bool.{cond};
 ghost use Prim.Native.Nat.{_+_, _-_, _^_, _≤_, _<_, min};
 ghost use lib.Dec.{leb};
-ghost use lib.ListN.{length, getD};
+ghost use lib.ListN.{length};
 ghost use Rattle.std.specs.declared.option.Option.the-variants.{Some, None};
-ghost use Rattle.lots.specs.Groups.{lot, units-of, total, lot-for-more, grown, added, oldest, moved-up, opened, paid};
+ghost use Rattle.lots.specs.Groups.{lot, total, lot-for-more, grown, added, oldest, moved-up, opened, paid};
 
 /// Units that came in together, or joined the newest lot. An unused lot holds zero.
 #[derive(Clone, Copy)]

@@ -1,5 +1,5 @@
 use native.Mathlib.Omega.{arith}
-use Rattle.lots.proofs.Groups.{go-on, stop-at, none-left}
+use Rattle.lots.proofs.Groups.{go-on, stop-at}
 use Rattle.lots.proofs.group.find_lot.Needs as need
 
 pub returns-then-group-i-eq0 : need.returns-then-group-i-eq0
