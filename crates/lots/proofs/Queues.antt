@@ -22,7 +22,7 @@ use Rattle.custody.proofs.Outcomes.{taken-tells, released-tells, taken-is, rele
 use Rattle.lots.specs.declared.group.Lot.{Lot}
 use Rattle.lots.specs.Groups.{lot, units-of, total, used, lot-for-more, added, moved-up, paid}
 use Rattle.lots.specs.Stores.{is-store, prepared, cleared, place, group, with-group, sound, held, blocked, stored, drawn}
-use Rattle.lots.specs.Queues.{joined, left, queue-after, queue, lots-of, store-after, stores, Shows, First-in-first-out}
+use Rattle.lots.specs.Queues.{joined, left, is-of, queue-after, queue, lots-of, store-after, stores, Shows, First-in-first-out}
 use Rattle.lots.proofs.Groups.{moved-up-is, length-added, length-paid, total-added, total-paid}
 use Rattle.lots.proofs.Stores.{length-group, length-with-group, group-same, group-other, sound-from}
 
@@ -255,37 +255,33 @@ module _ (store : List Lot) (c a : ℕ) (k : Known c a) (q : List ℕ) (is : Que
       cond-both granted (with-group store x y g) store (λ s. Queued s c a q)
       (λ t. other-group x y g (tells t .0) (tells t .1) apart) (λ _. is)
 
+  -- A movement is of this customer and asset, or of another.
+  by-whom :
+      (x y : ℕ) (after : ℕ → ℕ → List Lot) (ok : Bool) (p : List ℕ) → Queued (after c a) c a (cond ok p q)
+      → ((c ≡ x → a ≡ y → ⊥) → Queued (after x y) c a q) → Queued (after x y) c a (cond (is-of c a x y && ok) p q)
+  by-whom x y after ok p own other =
+      ⊎-elim
+      (λ (t : is-of c a x y ≡ true).
+      let parts = and-parts (eqb x c) (eqb y a) t in
+      let ex : x ≡ c = eqb-true x c (parts .0) in
+      let ey : y ≡ a = eqb-true y a (parts .1) in
+      rw (t, ex, ey) own)
+      (λ (t : is-of c a x y ≡ false). rw t (other (apart c a x y t)))
+      (cases-bool (is-of c a x y))
+
   moves : (m : Movement) → Queued (store-after store m) c a (queue-after c a q m)
   moves (taking x y n) =
-      ⊎-elim
-      (λ (t : (eqb x c && eqb y a) ≡ true).
-      let p = and-parts (eqb x c) (eqb y a) t in
-      let ex : x ≡ c = eqb-true x c (p .0) in
-      let ey : y ≡ a = eqb-true y a (p .1) in
-      rw (t, ex, ey) (own-taking n))
-      (λ (t : (eqb x c && eqb y a) ≡ false).
-      rw t
+      by-whom x y (λ u v. stored store u v n) (leb (sum q + n) (ceiling a)) (joined q n) (own-taking n)
       (other-movement (isOk (taken (held store) x y n) && sound store x y) x y (added (group store x y) n)
       (λ e.
       let h = taken-tells (held store) x y n (and-parts (isOk (taken (held store) x y n)) (sound store x y) e .0) in
-      (h .0, length-added (group store x y) n ∙ length-group store (is .long) x y (h .0)))
-      (apart c a x y t)))
-      (cases-bool (eqb x c && eqb y a))
+      (h .0, length-added (group store x y) n ∙ length-group store (is .long) x y (h .0))))
   moves (release x y n) =
-      ⊎-elim
-      (λ (t : (eqb x c && eqb y a) ≡ true).
-      let p = and-parts (eqb x c) (eqb y a) t in
-      let ex : x ≡ c = eqb-true x c (p .0) in
-      let ey : y ≡ a = eqb-true y a (p .1) in
-      rw (t, ex, ey) (own-release n))
-      (λ (t : (eqb x c && eqb y a) ≡ false).
-      rw t
+      by-whom x y (λ u v. drawn store u v n) (leb n (sum q)) (left q n) (own-release n)
       (other-movement (isOk (released (held store) (blocked store) x y n)) x y (paid 8 (group store x y) n)
       (λ e.
       let h = released-tells (held store) (blocked store) x y n e in
-      (h .0, length-paid 8 (group store x y) n (length-group store (is .long) x y (h .0))))
-      (apart c a x y t)))
-      (cases-bool (eqb x c && eqb y a))
+      (h .0, length-paid 8 (group store x y) n (length-group store (is .long) x y (h .0)))))
 
 all-movements : (ms : List Movement) (store : List Lot) (c a : ℕ) (q : List ℕ) → Known c a → Queued store c a q → Shows (stores store ms) c a (queue c a q ms)
 all-movements [] store c a q k is = shows store c a k q is

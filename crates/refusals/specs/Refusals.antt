@@ -1,7 +1,7 @@
 -- The number of each refusal, and faults.
 use Prim.Native.Nat.{ℕ}
 use Rattle.refusals.specs.declared.Refusal.{Refusal}
-use Rattle.refusals.specs.declared.Refusal.the-variants.{Form, CustomerRange, InstrumentRange, FigureRange, MemberState, CustomerStatus, Limit, Blocked, NotHeld, NotCovered, NotSettled, FewLots}
+use Rattle.refusals.specs.declared.Refusal.the-variants.{Form, CustomerRange, InstrumentRange, FigureRange, WrongState, WrongStatus, Limit, Blocked, NotHeld, NotCovered, NotSettled, FewLots}
 use Rattle.refusals.specs.declared.Fault.{Fault}
 
 -- The number under which each refusal is reported.
@@ -10,8 +10,8 @@ number Form = 1
 number CustomerRange = 2
 number InstrumentRange = 3
 number FigureRange = 4
-number MemberState = 5
-number CustomerStatus = 6
+number WrongState = 5
+number WrongStatus = 6
 number Limit = 7
 number Blocked = 8
 number NotHeld = 9

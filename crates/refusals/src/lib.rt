@@ -23,9 +23,9 @@ pub enum Refusal {
     /// Units, a price or another figure is out of range.
     FigureRange,
     /// The member's state forbids it.
-    MemberState,
+    WrongState,
     /// The customer's status forbids it.
-    CustomerStatus,
+    WrongStatus,
     /// A limit would be passed.
     Limit,
     /// Custody is blocked.
@@ -50,8 +50,8 @@ impl Refusal {
             Refusal::CustomerRange => 2,
             Refusal::InstrumentRange => 3,
             Refusal::FigureRange => 4,
-            Refusal::MemberState => 5,
-            Refusal::CustomerStatus => 6,
+            Refusal::WrongState => 5,
+            Refusal::WrongStatus => 6,
             Refusal::Limit => 7,
             Refusal::Blocked => 8,
             Refusal::NotHeld => 9,
