@@ -1,9 +1,9 @@
 -- The text of a day: what the rules make of its steps, told one line each.
-use Prim.Native.Nat.{ℕ, _+_}
+use Prim.Native.Nat.{ℕ, _+_, _<_}
 use mathlib.Core.Bool.{Bool}
 use mathlib.Core.List.{List, [], _∷_, _++_}
 use mathlib.Core.Path.{_≡_}
-use lib.ListN.{take}
+use lib.ListN.{length, take}
 use Rattle.std.specs.declared.result.Result.{Result}
 use Rattle.refusals.specs.declared.Fault.{Fault}
 use Rattle.custody.specs.declared.Custody.{Ghosts as Custodian}
@@ -36,6 +36,6 @@ abbrev pub Went : {C : Type 0} → Custodian C → Reconciliation C → List Ste
 Went g k [] t = t ≡ k
 Went {C} g k (s ∷ ss) t = (r : Result Answer Fault) × (j : Reconciliation C) × Stepped g k s r j × Went g j ss t
 
--- Only the first of these steps were performed, however many.
+-- Only the first of these steps were performed, at least one: n of them, and the one after them.
 abbrev pub Went-in-part : {C : Type 0} → Custodian C → Reconciliation C → List Step → Reconciliation C → Type 0
-Went-in-part g k steps t = (n : ℕ) × Went g k (take n steps) t
+Went-in-part g k steps t = (n : ℕ) × (n < length steps) × Went g k (take (n + 1) steps) t

@@ -25,7 +25,8 @@ fn add_line(text: &mut String, report: Report) -> Result<(), AllocError>
     }
 }
 
-/// Performs steps in their order, and answers the text that tells of them. Where memory is wanting, the first steps only.
+/// Performs steps in their order, and answers the text that tells of them. Where memory is wanting for the line of a
+/// step, no step after it is performed.
 pub fn tell_day<C: Custody>(
     heap: Global,
     custody: &mut Reconciliation<C>,

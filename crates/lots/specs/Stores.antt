@@ -54,11 +54,11 @@ with-group store c a g = with-eight store (place c a) g
 abbrev pub sound : List Lot → ℕ → ℕ → Bool
 sound store c a = is-store store && leb (total (group store c a)) (ceiling a)
 
--- Held units are those of the eight lots.
+-- Held units are those of the eight lots; the ceiling stands for what was never made.
 abbrev pub held : List Lot → Figures
 held store c a = cond (sound store c a) (total (group store c a)) (ceiling a)
 
--- Lots never block.
+-- Lots never block; 255 stands for what was never made.
 abbrev pub blocked : List Lot → Figures
 blocked store c a = cond (sound store c a) 0 255
 

@@ -44,7 +44,7 @@ pub fn prepare(store: &mut [Lot]) -> Result<(), Fault>
     Ok(())
 }
 
-/// The same. From then on the lots of each customer and asset are a queue.
+/// Prepares the store, and says what it is from then on: a queue for each customer and asset.
 pub(crate) fn prepare_queues(store: &mut [Lot]) -> Result<(), Fault>
     ensures result { λ r. ⌜ r ≡ prepared (now (store .entry)) ⌝ }
     ensures after { λ _. ⌜ now (store .exit) ≡ cleared (now (store .entry)) ⌝ }
@@ -111,6 +111,7 @@ pub(crate) fn take_units(
 {
     let (units, depth) = ask(store, customer, asset)?;
     check_taking_in(units, customer, asset, amount)?;
+    // A store that was never made is full: a grant there is of 0 units, and nothing is written.
     if depth == 0 {
         add_lot(store, place_of(customer, asset), amount);
     }

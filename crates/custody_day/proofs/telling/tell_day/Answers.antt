@@ -1,4 +1,3 @@
-use Prim.Native.Nat.{_+_}
 use Rattle.std.specs.Of.String.{string-bytes}
 use Rattle.std.proofs.shelf.Results.{err-from-errBy}
 use Rattle.custody_day.proofs.Days.{begins, performs, goes-on, ends}
@@ -20,7 +19,7 @@ returns-in-Break-add-line g c =
     performs (g .C·Custody) (c .args .custody .now) (c .args .steps .now) (string-bytes (c .loop-done .text)) (c .loop-done .custody) (c .perform-outcome .last .custody)
     (c .loop-done .done) _ _ (c .loop-done-test .taken) (c .perform-outcome .ensures) (c .loop-done .inv)
     in
-    rw (err-from-errBy (c .from-residual .result) (c .from-residual .ensures .1) .1) (record { text = tt; went = (c .loop-done .done + 1, went) })
+    rw (err-from-errBy (c .from-residual .result) (c .from-residual .ensures .1) .1) (record { text = tt; went = (c .loop-done .done, c .loop-done-test .taken, went) })
 
 pub returns : need.returns
 returns g c =
