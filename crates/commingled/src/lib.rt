@@ -1,5 +1,8 @@
 //! The commingled account: one total for each asset and a share for each customer.
 //! It knows the custody interface and the refusals.
+
+#![tactic(auto)]
+
 ghost use Rattle.std.specs.Prelude.{◌≡◌, ◌+◌, ◌-◌, ◌^◌, ◌<◌, ◌≤◌};
 ghost use Rattle.refusals.specs.Ranges.{Known, ceiling};
 ghost use Rattle.custody.specs.Meaning.{Alike, raised, lowered};

@@ -1,6 +1,9 @@
 //! Custody as an interface: who holds the customers' assets, known by two figures alone,
 //! the units held and the block depth of each customer and asset.
 //! This crate knows the refusals, and no implementation.
+
+#![tactic(auto)]
+
 ghost use Rattle.std.specs.Prelude.{◌≡◌, ℕ, ◌+◌, ◌≤◌, true, false, is_ok};
 ghost use Rattle.refusals.specs.Checks.{passed};
 ghost use Rattle.refusals.specs.Ranges.{Known, ceiling};

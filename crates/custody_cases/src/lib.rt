@@ -1,4 +1,7 @@
 //! Worked cases of custody: bad input, layers over layers, and what the lots hold.
+
+#![tactic(auto)]
+
 #[cfg(test)]
 mod tests {
     use commingled::Commingled;

@@ -1,5 +1,8 @@
 //! A custody day: steps performed, one after the other, over a reconciled custody, and told in words.
 //! It knows the reconciliation and, below it, any custody.
+
+#![tactic(auto)]
+
 mod report;
 mod steps;
 mod telling;

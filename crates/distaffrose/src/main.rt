@@ -1,4 +1,7 @@
 //! Follows one custody day over lots and reconciliation, and prints each step with its answer or its refusal.
+
+#![tactic(auto)]
+
 use day::follow_day;
 use std::io;
 use std::io::Write;

@@ -1,5 +1,8 @@
 //! Where every history begins, and the proofs of the laws wherever it leads; the book's calls take them from here.
 //! It knows the definitions, and of code the records alone.
+
+#![tactic(auto)]
+
 ghost use Rattle.std.specs.Prelude.{◌≡◌};
 ghost use Rattle.rules.specs.Histories.{opening_accounts};
 ghost use Rattle.rules.specs.Laws.{Opens, LawsStand, StepsKeepLaws, HistoriesExist, MovementsAgree};

@@ -1,5 +1,8 @@
 //! Lots: a store lent by the caller, eight lots for each customer and asset, oldest first.
 //! It knows the custody interface and the refusals.
+
+#![tactic(auto)]
+
 ghost use Rattle.std.specs.Prelude.{◌≡◌, is_ok, IfOk, MatchResult};
 ghost use Rattle.refusals.specs.declared.Refusal.TheVariants.{FewLots};
 ghost use Rattle.refusals.specs.Refusals.{fault};

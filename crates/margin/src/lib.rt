@@ -1,5 +1,8 @@
 //! Margin methods: what the eight nets of a customer require.
 //! This crate knows the refusals alone; code above it knows a method by its figure for each portfolio.
+
+#![tactic(auto)]
+
 mod flat;
 mod method;
 mod scenario;

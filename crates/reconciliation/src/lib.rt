@@ -1,5 +1,8 @@
 //! Reconciliation: a layer over any one custody that blocks what the custodian states otherwise.
 //! It knows the custody below by its two figures alone, and is a custody itself.
+
+#![tactic(auto)]
+
 ghost use Rattle.std.specs.Prelude.{◌≡◌, ◌+◌, ◌-◌, ◌*◌, false, replicate, is_ok};
 ghost use Rattle.refusals.specs.Ranges.{Known};
 ghost use Rattle.custody.specs.Meaning.{Alike};

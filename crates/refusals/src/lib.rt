@@ -1,5 +1,8 @@
 //! Why a call is turned down, and the ranges that come before anything else.
 //! This crate knows no other: every fault of the ledger is made of what stands here.
+
+#![tactic(auto)]
+
 ghost use Rattle.std.specs.Prelude.{◌≡◌, ◌^◌, ◌≤◌, true, [], ◌∷◌, is_ok, Some};
 ghost use Rattle.refusals.specs.Shown.{shown_fault};
 ghost use Rattle.refusals.specs.Refusals.{number, fault, fault_at};

@@ -1,6 +1,9 @@
 //! The subject's own types, and in `specs/` every definition that a reader of the ledger has to believe:
 //! the figures, the rule of each entry, histories, and the laws over them.
 //! It knows custody, reconciliation and margin by their definitions alone.
+
+#![tactic(auto)]
+
 ghost use Rattle.rules.specs.Worked.{WorkedFigures};
 
 mod entries;
