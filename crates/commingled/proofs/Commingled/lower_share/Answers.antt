@@ -12,8 +12,8 @@ lower-requires c =
       share = c.requires.held;
     }
 
-pub invariant-of-self : goal.invariant-of-self
-invariant-of-self c =
+pub invariant_of-self : goal.invariant_of-self
+invariant_of-self c =
     let s = c.args.self.now in
     let k = c.requires.known in
     let part = share_in_total s.pools s.shared s.summed c.args.customer c.args.asset k in

@@ -13,8 +13,8 @@ raise-requires c =
       share = omega (arith, ceiling_most c.args.asset, c.requires.room);
     }
 
-pub invariant-of-self : goal.invariant-of-self
-invariant-of-self c =
+pub invariant_of-self : goal.invariant_of-self
+invariant_of-self c =
     let s = c.args.self.now in
     rw c.raise.ensures
     (replaced_sound s.pools c.args.customer c.args.asset _ _ s.four s.shared s.summed s.capped c.requires.known c.requires.room (omega arith))

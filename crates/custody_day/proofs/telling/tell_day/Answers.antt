@@ -10,11 +10,11 @@ loop-done-init g c =
 pub loop-done-preserved : goal.loop-done-preserved
 loop-done-preserved g c =
     goes_on g.C.Custody c.args.custody.now c.args.steps.now (string_bytes c.loop-done.text) c.loop-done.custody c.perform-outcome.new.custody
-    c.loop-done.done _ _ c.loop-done-test.true c.perform-outcome.ensures c.loop-done.invariant (string_bytes c.add-line.new.text)
-    c.in-ok-add-line.ensures
+    c.loop-done.done _ _ c.loop-done-test.true c.perform-outcome.ensures c.loop-done.invariant (string_bytes c.add_line.new.text)
+    c.in_ok-add_line.ensures
 
-pub returns-in-err-add-line : goal.returns-in-err-add-line
-returns-in-err-add-line g c =
+pub returns-in_err-add_line : goal.returns-in_err-add_line
+returns-in_err-add_line g c =
     let went =
     performs g.C.Custody c.args.custody.now c.args.steps.now (string_bytes c.loop-done.text) c.loop-done.custody c.perform-outcome.new.custody
     c.loop-done.done _ _ c.loop-done-test.true c.perform-outcome.ensures c.loop-done.invariant

@@ -10,4 +10,4 @@ returns c =
     let fresh =
     told_fresh the_day _ c.in-Ok.lots.store.now _ (ap (λ l. l.store.now) over.held) c.in-Ok.ensures.queues over.unmarked
     in
-    IfOk-weaker c.tell-day.result _ (λ text. string_bytes text ≡ text_of day_lines) (λ text told. told ∙ fresh ∙ day_told) c.tell-day.ensures.text
+    IfOk-weaker c.tell_day.result _ (λ text. string_bytes text ≡ text_of day_lines) (λ text told. told ∙ fresh ∙ day_told) c.tell_day.ensures.text

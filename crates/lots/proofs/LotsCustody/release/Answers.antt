@@ -5,7 +5,7 @@ use Rattle.lots.proofs.LotsCustody.release.Goals as goal
 
 pub returns : goal.returns
 returns c =
-    let e = c.release-units.ensures in
+    let e = c.release_units.ensures in
     let left = left_drawn c.args.self.now.store.now c.args.customer c.args.asset c.args.amount _ _ e.result e.after in
     record {
       result = e.result;

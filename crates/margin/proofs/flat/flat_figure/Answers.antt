@@ -21,8 +21,8 @@ charge-sum-requires c =
     let f : SFits w64 (at c.args.nets.now c.loop-i.i) = search rules in
     (simp to_z-of_z (net_most c.args.nets.now c.requires c.loop-i.i), c.loop-i-test.true)
 
-pub overflow-add-sum : goal.overflow-add-sum
-overflow-add-sum c = omega (arith, added_most c)
+pub overflow_add-sum : goal.overflow_add-sum
+overflow_add-sum c = omega (arith, added_most c)
 
 pub loop-i-preserved : goal.loop-i-preserved
 loop-i-preserved c = (ap₂ ◌+◌ c.loop-i.invariant.0 (added c) ∙ sym (sum_more c.loop-i.i _), omega (arith, added_most c))

@@ -7,8 +7,8 @@ use Rattle.margin.proofs.scenario.gain.Goals as goal
 fits : (c : goal.Start) → SFits w64 (c.args.net *ℤ c.args.shock)
 fits c = small_fits _ (omega (arith, product_most c.args.net c.args.shock (10 ^ 6) 1000 c.requires.0 c.requires.1))
 
-pub overflow-mul-result : goal.overflow-mul-result
-overflow-mul-result c = let a = c.ranges.net in let b = c.ranges.shock in simp to_z-of_z (fits c)
+pub overflow_mul-result : goal.overflow_mul-result
+overflow_mul-result c = let a = c.ranges.net in let b = c.ranges.shock in simp to_z-of_z (fits c)
 
 pub returns : goal.returns
 returns c = let a = c.ranges.net in let b = c.ranges.shock in let f = fits c in simp to_z-of_z

@@ -28,8 +28,8 @@ added_most c =
     (product_most (at c.args.nets.now c.loop-i.i) (at c.args.shocks.now c.loop-i.i) (10 ^ 6) 1000
     (net_most c.args.nets.now c.requires.portfolio c.loop-i.i) (c.requires.small c.loop-i.i))
 
-pub overflow-add-sum : goal.overflow-add-sum
-overflow-add-sum c = omega (arith, ints, added_most c)
+pub overflow_add-sum : goal.overflow_add-sum
+overflow_add-sum c = omega (arith, ints, added_most c)
 
 pub loop-i-preserved : goal.loop-i-preserved
 loop-i-preserved c =
