@@ -11,7 +11,7 @@ use Rattle.commingled.specs.Pools.{pooled, no_pool, pool_of, share, empty_pools,
 use Rattle.commingled.specs.declared.Pool.{Pool}
 
 abbrev pub Sound : List Pool → Type 0
-Sound pools = Four pools × (Shared pools × (Summed pools × (Capped pools × Unit {0})))
+Sound pools = record { four : Four pools; shared : Shared pools; summed : Summed pools; capped : Capped pools }
 
 -- What holds of the element replaced, and of the others, holds at each place.
 at_set :
@@ -56,24 +56,19 @@ replaced_sound pools c a t v four wide sums caps k room even =
     let lc : c - 1 < length xs = omega arith in
     let p : Pool = pooled t (set xs (c - 1) v) in
     let moved : sum (set xs (c - 1) v) + get_or xs (c - 1) 0 ≡ sum xs + v = sum_by-set (λ x. x) xs (c - 1) v 0 lc in
-    let total : t ≡ sum (set xs (c - 1) v) = omega (arith, sums a k.2 k.3) in (
-      simp length-set four,
-      (
-        λ b lo hi. at_set pools (a - 1) (b - 1) p no_pool la (λ q. length q.shares ≡ 64) (λ _. simp length-set n) (λ _. wide b lo hi),
-        (
-          λ b lo hi. at_set pools (a - 1) (b - 1) p no_pool la (λ q. q.total ≡ sum q.shares) (λ _. total) (λ _. sums b lo hi),
-          (
-            λ x y m.
-                at_set pools (a - 1) (y - 1) p no_pool la (λ q. get_or q.shares (x - 1) 0 ≤ ceiling y)
-                (λ e.
-                let same : y ≡ a = omega arith in
-                rw same (at_set xs (c - 1) (x - 1) v 0 lc (λ z. z ≤ ceiling a) (λ _. room) (λ _. caps x a (omega arith))))
-                (λ _. caps x y m),
-            tt,
-          ),
-        ),
-      ),
-    )
+    let total : t ≡ sum (set xs (c - 1) v) = omega (arith, sums a k.2 k.3) in
+    record {
+      four = simp length-set four;
+      shared = λ b lo hi. at_set pools (a - 1) (b - 1) p no_pool la (λ q. length q.shares ≡ 64) (λ _. simp length-set n) (λ _. wide b lo hi);
+      summed = λ b lo hi. at_set pools (a - 1) (b - 1) p no_pool la (λ q. q.total ≡ sum q.shares) (λ _. total) (λ _. sums b lo hi);
+      capped =
+          λ x y m.
+          at_set pools (a - 1) (y - 1) p no_pool la (λ q. get_or q.shares (x - 1) 0 ≤ ceiling y)
+          (λ e.
+          let same : y ≡ a = omega arith in
+          rw same (at_set xs (c - 1) (x - 1) v 0 lc (λ z. z ≤ ceiling a) (λ _. room) (λ _. caps x a (omega arith))))
+          (λ _. caps x y m);
+    }
 
 -- ---- at making
 each_of : {X : Type 0} (n i : ℕ) (x d : X) (P : X → Type 0) → i < n → P x → P (get_or (replicate n x) i d)
@@ -87,13 +82,9 @@ empty_share c a k =
     (each_of 64 (c - 1) 0 0 (λ n. n ≡ 0) lc refl)
 
 pub empty_sound : Sound empty_pools
-empty_sound = (
-  refl,
-  (
-    λ a lo hi. each_of 4 (a - 1) (pooled 0 (replicate 64 0)) no_pool (λ q. length q.shares ≡ 64) (omega arith) refl,
-    (
-      λ a lo hi. each_of 4 (a - 1) (pooled 0 (replicate 64 0)) no_pool (λ q. q.total ≡ sum q.shares) (omega arith) refl,
-      (λ c a k. omega (arith, empty_share c a k), tt),
-    ),
-  ),
-)
+empty_sound = record {
+  four = refl;
+  shared = λ a lo hi. each_of 4 (a - 1) (pooled 0 (replicate 64 0)) no_pool (λ q. length q.shares ≡ 64) (omega arith) refl;
+  summed = λ a lo hi. each_of 4 (a - 1) (pooled 0 (replicate 64 0)) no_pool (λ q. q.total ≡ sum q.shares) (omega arith) refl;
+  capped = λ c a k. omega (arith, empty_share c a k);
+}
