@@ -19,7 +19,7 @@ returns-in_err-add_line g c =
     performs g.C.Custody c.args.custody.now c.args.steps.now (string_bytes c.loop-done.text) c.loop-done.custody c.perform-outcome.new.custody
     c.loop-done.done _ _ c.loop-done-test.true c.perform-outcome.ensures c.loop-done.invariant
     in
-    rw (err_from_is_err_and c.from-residual.result c.from-residual.ensures.1).1 (record { text = tt; went = (c.loop-done.done, c.loop-done-test.true, went) })
+    rw (err_from_is_err_and c.from_residual.result c.from_residual.ensures.1).1 (record { text = tt; went = (c.loop-done.done, c.loop-done-test.true, went) })
 
 pub returns : goal.returns
 returns g c =
