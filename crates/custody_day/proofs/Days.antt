@@ -105,9 +105,10 @@ module _ {C : Type 0} (g : Custodian C) (start : Reconciliation C) (steps : List
     pub performs : Went g start (take (i + 1) steps) t
     performs = rw (take_more steps i d more) (went_more g (take i steps) start k t (get_or steps i d) r far.1 step)
 
-    pub goes_on : (after : List ℕ) → after ≡ before ++ line_of (i + 1) (get_or steps i d) r → SoFar g start steps after t (i + 1)
-    goes_on after written = (
-      one_more g before after k t (i + 1) (get_or steps i d) r (drop (i + 1) steps) step written
+    -- The line has the step's own number.
+    pub goes_on : (after : List ℕ) (n : ℕ) → after ≡ before ++ line_of n (get_or steps i d) r → n ≡ i + 1 → SoFar g start steps after t (i + 1)
+    goes_on after n written own = (
+      one_more g before after k t (i + 1) (get_or steps i d) r (drop (i + 1) steps) step (rw own at written)
           ∙ ap (λ ss. before ++ told_of g k (i + 1) ss) (sym (drop_more steps i d more)) ∙ far.0,
       performs,
     )

@@ -1,4 +1,4 @@
-use Rattle.std.proofs.Common.{string_bytes}
+use Rattle.std.proofs.Common.{string_bytes, arith}
 use Rattle.std.proofs.lemmas.Result.{err_from_is_err_and}
 use Rattle.custody_day.proofs.Days.{begins, performs, goes_on, ends}
 use Rattle.custody_day.proofs.telling.tell_day.Goals as goal
@@ -11,7 +11,7 @@ pub loop-done-preserved : goal.loop-done-preserved
 loop-done-preserved g c =
     goes_on g.C.Custody c.args.custody.now c.args.steps.now (string_bytes c.loop-done.text) c.loop-done.custody c.perform-outcome.new.custody
     c.loop-done.done _ _ c.loop-done-test.true c.perform-outcome.ensures c.loop-done.invariant (string_bytes c.add_line.new.text)
-    c.in_ok-add_line.ensures
+    _ c.in_ok-add_line.ensures (omega arith)
 
 pub returns-in_err-add_line : goal.returns-in_err-add_line
 returns-in_err-add_line g c =

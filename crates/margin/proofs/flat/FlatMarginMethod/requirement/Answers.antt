@@ -1,9 +1,8 @@
-use Rattle.std.proofs.Common.{rules}
 use Rattle.margin.proofs.Bounds.{flat_bounded}
 use Rattle.margin.proofs.flat.FlatMarginMethod.requirement.Goals as goal
 
-pub returns-in_err-check_portfolio : goal.returns-in_err-check_portfolio
-returns-in_err-check_portfolio c = record { result = search rules; bounds = flat_bounded }
+pub returns-in_err-check_portfolio-clause-bounds : goal.returns-in_err-check_portfolio-clause-bounds
+returns-in_err-check_portfolio-clause-bounds c = flat_bounded
 
-pub returns : goal.returns
-returns c = record { result = search rules; bounds = flat_bounded }
+pub returns-clause-bounds : goal.returns-clause-bounds
+returns-clause-bounds c = flat_bounded
