@@ -9,9 +9,15 @@ use Rattle.refusals.specs.Ranges.{Known, ceiling}
 use Rattle.refusals.proofs.Ceilings.{ceiling_most}
 use Rattle.commingled.specs.Pools.{pooled, no_pool, pool_of, share, empty_pools, Four, Shared, Summed, Capped}
 use Rattle.commingled.specs.declared.Pool.{Pool}
+use Rattle.commingled.specs.declared.Commingled.{Commingled}
+use Rattle.refusals.specs.declared.holding.Holding.{Holding}
 
 abbrev pub Sound : List Pool → Type 0
 Sound pools = record { four : Four pools; shared : Shared pools; summed : Summed pools; capped : Capped pools }
+
+-- The pool of one asset with the share of one customer replaced by v, and its total by t.
+abbrev pub replaced : List Pool → ℕ → ℕ → ℕ → ℕ → List Pool
+replaced pools c a t v = set pools (a - 1) (pooled t (set (pool_of pools a).shares (c - 1) v))
 
 -- What holds of the element replaced, and of the others, holds at each place.
 at_set :
@@ -23,52 +29,55 @@ at_set xs i j y d h P same other =
     (λ (n : j ≢ i). rw (get_or-set_other xs i j y d n) (other n))
     (cases_eq j i)
 
--- The customer's share is part of the total,
-pub share_in_total : (pools : List Pool) → Shared pools → Summed pools → (c a : ℕ) → Known c a → share pools c a ≤ (pool_of pools a).total
-share_in_total pools wide sums c a k =
-    let xs : List ℕ = (pool_of pools a).shares in
-    let lt : c - 1 < length xs = omega (arith, wide a k.2 k.3) in
-    omega (arith, get_or-le-sum_by (λ x. x) xs (c - 1) 0 lt, sums a k.2 k.3)
+module _ (s : Commingled) where
+  -- The customer's share is part of the total,
+  pub share_in_total : (of : Holding) → share s.pools of.customer of.asset ≤ (pool_of s.pools of.asset).total
+  share_in_total of =
+      let k = of.known in
+      let xs : List ℕ = (pool_of s.pools of.asset).shares in
+      let lt : of.customer - 1 < length xs = omega (arith, s.shared of.asset k.2 k.3) in
+      omega (arith, get_or-le-sum_by (λ x. x) xs (of.customer - 1) 0 lt, s.summed of.asset k.2 k.3)
 
--- and 64 ceilings fit a total.
-pub total_most : (pools : List Pool) → Shared pools → Summed pools → Capped pools → (a : ℕ) → 1 ≤ a → a ≤ 4 → (pool_of pools a).total ≤ 64 * 10 ^ 17
-total_most pools wide sums caps a lo hi =
-    let xs : List ℕ = (pool_of pools a).shares in
-    let n : length xs ≡ 64 = wide a lo hi in
-    let each : All (λ x. x ≤ 10 ^ 17) xs =
-    All-from_get_or (λ x. x ≤ 10 ^ 17) xs 0
-    (λ j l. let k : Known (j + 1) a = omega arith in let e : j + 1 - 1 ≡ j = omega arith in omega (arith, ceiling_most a, rw e at (caps (j + 1) a k)))
-    in
-    let most : sum xs ≤ 64 * 10 ^ 17 = rw n at (sum_by_le (λ x. x) (10 ^ 17) xs each) in
-    omega (arith, sums a lo hi)
+  -- and 64 ceilings fit a total.
+  pub total_most : (a : ℕ) → 1 ≤ a → a ≤ 4 → (pool_of s.pools a).total ≤ 64 * 10 ^ 17
+  total_most a lo hi =
+      let xs : List ℕ = (pool_of s.pools a).shares in
+      let n : length xs ≡ 64 = s.shared a lo hi in
+      let each : All (λ x. x ≤ 10 ^ 17) xs =
+      All-from_get_or (λ x. x ≤ 10 ^ 17) xs 0
+      (λ j l. let k : Known (j + 1) a = omega arith in let e : j + 1 - 1 ≡ j = omega arith in omega (arith, ceiling_most a, rw e at (s.capped (j + 1) a k)))
+      in
+      let most : sum xs ≤ 64 * 10 ^ 17 = rw n at (sum_by_le (λ x. x) (10 ^ 17) xs each) in
+      omega (arith, s.summed a lo hi)
 
--- The pool of one asset with the share of one customer replaced by v, and its total by t.
-abbrev pub replaced : List Pool → ℕ → ℕ → ℕ → ℕ → List Pool
-replaced pools c a t v = set pools (a - 1) (pooled t (set (pool_of pools a).shares (c - 1) v))
-
-pub replaced_sound :
-    (pools : List Pool) (c a t v : ℕ) → Four pools → Shared pools → Summed pools → Capped pools → Known c a
-    → v ≤ ceiling a → t + share pools c a ≡ (pool_of pools a).total + v → Sound (replaced pools c a t v)
-replaced_sound pools c a t v four wide sums caps k room even =
-    let xs : List ℕ = (pool_of pools a).shares in
-    let n : length xs ≡ 64 = wide a k.2 k.3 in
-    let la : a - 1 < length pools = omega arith in
-    let lc : c - 1 < length xs = omega arith in
-    let p : Pool = pooled t (set xs (c - 1) v) in
-    let moved : sum (set xs (c - 1) v) + get_or xs (c - 1) 0 ≡ sum xs + v = sum_by-set (λ x. x) xs (c - 1) v 0 lc in
-    let total : t ≡ sum (set xs (c - 1) v) = omega (arith, sums a k.2 k.3) in
-    record {
-      four = simp length-set four;
-      shared = λ b lo hi. at_set pools (a - 1) (b - 1) p no_pool la (λ q. length q.shares ≡ 64) (λ _. simp length-set n) (λ _. wide b lo hi);
-      summed = λ b lo hi. at_set pools (a - 1) (b - 1) p no_pool la (λ q. q.total ≡ sum q.shares) (λ _. total) (λ _. sums b lo hi);
-      capped =
-          λ x y m.
-          at_set pools (a - 1) (y - 1) p no_pool la (λ q. get_or q.shares (x - 1) 0 ≤ ceiling y)
-          (λ e.
-          let same : y ≡ a = omega arith in
-          rw same (at_set xs (c - 1) (x - 1) v 0 lc (λ z. z ≤ ceiling a) (λ _. room) (λ _. caps x a (omega arith))))
-          (λ _. caps x y m);
-    }
+  -- With one share replaced by v, and its total by t, so that the total moves as the share does.
+  pub replaced_sound :
+      (of : Holding) (t v : ℕ) → v ≤ ceiling of.asset → t + share s.pools of.customer of.asset ≡ (pool_of s.pools of.asset).total + v
+      → Sound (replaced s.pools of.customer of.asset t v)
+  replaced_sound of t v room even =
+      let k = of.known in
+      let i = of.asset - 1 in
+      let j = of.customer - 1 in
+      let xs : List ℕ = (pool_of s.pools of.asset).shares in
+      let n : length xs ≡ 64 = s.shared of.asset k.2 k.3 in
+      let four : length s.pools ≡ 4 = s.four in
+      let la : i < length s.pools = omega arith in
+      let lc : j < length xs = omega arith in
+      let p : Pool = pooled t (set xs j v) in
+      let moved : sum (set xs j v) + get_or xs j 0 ≡ sum xs + v = sum_by-set (λ x. x) xs j v 0 lc in
+      let total : t ≡ sum (set xs j v) = omega (arith, s.summed of.asset k.2 k.3) in
+      record {
+        four = simp length-set four;
+        shared = λ b lo hi. at_set s.pools i (b - 1) p no_pool la (λ q. length q.shares ≡ 64) (λ _. simp length-set n) (λ _. s.shared b lo hi);
+        summed = λ b lo hi. at_set s.pools i (b - 1) p no_pool la (λ q. q.total ≡ sum q.shares) (λ _. total) (λ _. s.summed b lo hi);
+        capped =
+            λ x y m.
+            at_set s.pools i (y - 1) p no_pool la (λ q. get_or q.shares (x - 1) 0 ≤ ceiling y)
+            (λ e.
+            let same : y ≡ of.asset = omega arith in
+            rw same (at_set xs j (x - 1) v 0 lc (λ z. z ≤ ceiling of.asset) (λ _. room) (λ _. s.capped x of.asset (omega arith))))
+            (λ _. s.capped x y m);
+      }
 
 -- ---- at making
 each_of : {X : Type 0} (n i : ℕ) (x d : X) (P : X → Type 0) → i < n → P x → P (get_or (replicate n x) i d)

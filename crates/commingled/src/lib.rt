@@ -3,13 +3,14 @@
 
 #![tactic(auto)]
 
-ghost use Rattle.std.specs.Prelude.{◌≡◌, ◌+◌, ◌-◌, ◌^◌, ◌<◌, ◌≤◌};
-ghost use Rattle.refusals.specs.Ranges.{Known, ceiling};
+ghost use Rattle.std.specs.Prelude.{◌≡◌, ◌+◌, ◌^◌, ◌<◌, ◌≤◌};
+ghost use Rattle.std.proofs.Common.{rules};
+ghost use Rattle.refusals.specs.Ranges.{ceiling};
 ghost use Rattle.custody.specs.Meaning.{Alike, raised, lowered};
 ghost use Rattle.commingled.specs.Pools.{share, share_in, empty_pools, raised_pool, lowered_pool, raised_pools, lowered_pools, totalled, Four, Shared, Summed, Capped};
 
 use custody::{Custody, check_release, check_taking_in};
-use refusals::{Fault, check_asset, check_names};
+use refusals::{Fault, Holding, check_asset, check_names};
 
 /// The units of one asset: the total, and the share of each customer.
 #[derive(Clone, Copy)]
@@ -28,33 +29,25 @@ pub struct Commingled {
     ghost capped: { Capped pools },
 }
 
-/// Units that come in, in a customer's share and in the total.
-fn raise(pool: Pool, customer: u64, amount: u64) -> Pool
-    requires customer { (1 ≤ customer) × (customer ≤ 64) }
-    requires total { pool.total + amount < 2 ^ 64 }
-    requires share { share_in pool customer + amount < 2 ^ 64 }
-    ensures { result ≡ raised_pool pool customer amount }
-{
-    let mut shares = pool.shares;
-    shares[(customer - 1) as usize] += amount;
-    Pool {
-        total: pool.total + amount,
-        shares,
+impl Pool {
+    /// Units come in, in a customer's share and in the total.
+    fn raise(&mut self, holding: Holding, amount: u64)
+        requires total { self.old.total + amount < 2 ^ 64 }
+        requires share { share_in self.old holding.customer + amount < 2 ^ 64 }
+        ensures { self.new ≡ raised_pool self.old holding.customer amount }
+    {
+        self.total += amount;
+        self.shares[holding.customer_place()] += amount;
     }
-}
 
-/// Units that go out, of a customer's share and of the total.
-fn lower(pool: Pool, customer: u64, amount: u64) -> Pool
-    requires customer { (1 ≤ customer) × (customer ≤ 64) }
-    requires total { amount ≤ pool.total }
-    requires share { amount ≤ share_in pool customer }
-    ensures { result ≡ lowered_pool pool customer amount }
-{
-    let mut shares = pool.shares;
-    shares[(customer - 1) as usize] -= amount;
-    Pool {
-        total: pool.total - amount,
-        shares,
+    /// Units go out, of a customer's share and of the total.
+    fn lower(&mut self, holding: Holding, amount: u64)
+        requires total { amount ≤ self.old.total }
+        requires share { amount ≤ share_in self.old holding.customer }
+        ensures { self.new ≡ lowered_pool self.old holding.customer amount }
+    {
+        self.total -= amount;
+        self.shares[holding.customer_place()] -= amount;
     }
 }
 
@@ -85,32 +78,26 @@ impl Commingled {
         Ok(self.pools[(asset - 1) as usize].total)
     }
 
-    fn share_of(&self, customer: u64, asset: u64) -> u64
-        requires { Known customer asset }
-        ensures { result ≡ share self.now.pools customer asset }
+    fn share_of(&self, holding: Holding) -> u64
+        ensures { result ≡ share self.now.pools holding.customer holding.asset }
     {
-        let pool = self.pools[(asset - 1) as usize];
-        pool.shares[(customer - 1) as usize]
+        self.pools[holding.asset_place()].shares[holding.customer_place()]
     }
 
-    fn raise_share(&mut self, customer: u64, asset: u64, amount: u64)
-        requires known { Known customer asset }
-        requires room { share self.old.pools customer asset + amount ≤ ceiling asset }
-        ensures after { self.new.pools ≡ raised_pools self.old.pools customer asset amount }
-        ensures shares { Alike (share self.new.pools) (raised (share self.old.pools) customer asset amount) }
+    fn raise_share(&mut self, holding: Holding, amount: u64)
+        requires { share self.old.pools holding.customer holding.asset + amount ≤ ceiling holding.asset }
+        ensures after { self.new.pools ≡ raised_pools self.old.pools holding.customer holding.asset amount }
+        ensures shares { Alike (share self.new.pools) (raised (share self.old.pools) holding.customer holding.asset amount) }
     {
-        let pool = self.pools[(asset - 1) as usize];
-        self.pools[(asset - 1) as usize] = raise(pool, customer, amount);
+        self.pools[holding.asset_place()].raise(holding, amount);
     }
 
-    fn lower_share(&mut self, customer: u64, asset: u64, amount: u64)
-        requires known { Known customer asset }
-        requires held { amount ≤ share self.old.pools customer asset }
-        ensures after { self.new.pools ≡ lowered_pools self.old.pools customer asset amount }
-        ensures shares { Alike (share self.new.pools) (lowered (share self.old.pools) customer asset amount) }
+    fn lower_share(&mut self, holding: Holding, amount: u64)
+        requires { amount ≤ share self.old.pools holding.customer holding.asset }
+        ensures after { self.new.pools ≡ lowered_pools self.old.pools holding.customer holding.asset amount }
+        ensures shares { Alike (share self.new.pools) (lowered (share self.old.pools) holding.customer holding.asset amount) }
     {
-        let pool = self.pools[(asset - 1) as usize];
-        self.pools[(asset - 1) as usize] = lower(pool, customer, amount);
+        self.pools[holding.asset_place()].lower(holding, amount);
     }
 }
 
@@ -123,22 +110,24 @@ impl Custody for Commingled {
 
     ghost gives = { λ s c a n t. t.pools ≡ lowered_pools s.pools c a n };
 
+    ghost bounded = { Prim.search rules };
+
     fn question(&self, customer: u64, asset: u64) -> Result<(u64, u8), Fault> {
-        check_names(customer, asset)?;
-        Ok((self.share_of(customer, asset), 0))
+        let holding = check_names(customer, asset)?;
+        Ok((self.share_of(holding), 0))
     }
 
     fn take_in(&mut self, customer: u64, asset: u64, amount: u64) -> Result<(), Fault> {
         let (held, _depth) = self.question(customer, asset)?;
-        check_taking_in(held, customer, asset, amount)?;
-        self.raise_share(customer, asset, amount);
+        let holding = check_taking_in(held, customer, asset, amount)?;
+        self.raise_share(holding, amount);
         Ok(())
     }
 
     fn release(&mut self, customer: u64, asset: u64, amount: u64) -> Result<(), Fault> {
         let (held, depth) = self.question(customer, asset)?;
-        check_release(held, depth, customer, asset, amount)?;
-        self.lower_share(customer, asset, amount);
+        let holding = check_release(held, depth, customer, asset, amount)?;
+        self.lower_share(holding, amount);
         Ok(())
     }
 }

@@ -1,5 +1,5 @@
 -- What a grant tells of the figures, and figures with one of them replaced.
-use Rattle.std.proofs.Common.{◌≡◌, ℕ, ◌+◌, ◌^◌, ◌≤◌, true, ◌&&◌, eqb, leb, is_ok, sym, refl, ap, ◌∙◌, arith}
+use Rattle.std.proofs.Common.{◌≡◌, ℕ, ◌+◌, ◌^◌, ◌≤◌, true, ◌&&◌, eqb, leb, is_ok, refl, arith}
 use Rattle.std.proofs.lemmas.Bool.Decides.{nat_tests}
 use Rattle.std.proofs.lemmas.Bool.{cond_both, eqb-true, and_parts}
 use Rattle.refusals.specs.Ranges.{Known, ceiling}
@@ -15,11 +15,11 @@ pub released_tells :
     → Known c a × (n ≤ 10 ^ 17) × (deep c a ≡ 0) × (n ≤ held c a)
 released_tells held deep c a n e = grind (arith, nat_tests)
 
--- A figure replaced by itself is no change.
-pub with_figure_same : (f : Figures) (c a v x y : ℕ) → v ≡ f c a → with_figure f c a v x y ≡ f x y
-with_figure_same f c a v x y e =
+-- A figure that is not replaced.
+pub figure_apart : (f : Figures) (c a v x y : ℕ) → (x ≡ c → y ≡ a → ⊥) → with_figure f c a v x y ≡ f x y
+figure_apart f c a v x y d =
     cond_both (eqb x c && eqb y a) v (f x y) (λ z. z ≡ f x y)
-    (λ t. let p = and_parts (eqb x c) (eqb y a) t in e ∙ ap (λ n. f n a) (sym (eqb-true x c p.0)) ∙ ap (f x) (sym (eqb-true y a p.1)))
+    (λ t. let p = and_parts (eqb x c) (eqb y a) t in absurd (d (eqb-true x c p.0) (eqb-true y a p.1)))
     (λ _. refl)
 
 -- Of a known customer and asset a taking in is granted just if the ceiling allows it,

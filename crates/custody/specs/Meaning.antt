@@ -12,7 +12,7 @@ abbrev pub Figures : Type 0
 Figures = ℕ → ℕ → ℕ
 
 -- Alike for each of the 64 customers and four assets.
-abbrev pub Alike : Figures → Figures → Type 0
+abbrev pub Alike : {X : Type 0} → (ℕ → ℕ → X) → (ℕ → ℕ → X) → Type 0
 Alike f g = (c a : ℕ) → Known c a → f c a ≡ g c a
 
 -- Held units never pass the ceiling, and a block depth is at most 255.
@@ -38,12 +38,11 @@ held_check held c a n = (nat_le n held, fault_at NotHeld c a 0)
 
 -- Taking in, by the units held: after the ranges, refused if the ceiling would be passed.
 abbrev pub taking_in : ℕ → ℕ → ℕ → ℕ → List Check
-taking_in held c a n = range_checks c a n ++ (nat_le (held + n) (ceiling a), fault_at Limit c a 0) ∷ []
+taking_in held c a n = range_checks c a n ++ room_check held c a n ∷ []
 
 -- Releasing, by the units held and the block depth: after the ranges, refused if blocked, and then if more is asked for than is held.
 abbrev pub releasing : ℕ → ℕ → ℕ → ℕ → ℕ → List Check
-releasing held deep c a n =
-    range_checks c a n ++ ((deep == 0), fault_at Blocked c a deep) ∷ (nat_le n held, fault_at NotHeld c a 0) ∷ []
+releasing held deep c a n = range_checks c a n ++ free_check deep c a ∷ held_check held c a n ∷ []
 
 abbrev pub taken : Figures → ℕ → ℕ → ℕ → Result (Unit {0}) Fault
 taken held c a n = passed (taking_in (held c a) c a n)

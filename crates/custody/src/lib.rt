@@ -5,12 +5,14 @@
 #![tactic(auto)]
 
 ghost use Rattle.std.specs.Prelude.{◌≡◌, ℕ, ◌+◌, ◌≤◌, true, false, is_ok};
-ghost use Rattle.refusals.specs.Checks.{passed};
-ghost use Rattle.refusals.specs.Ranges.{Known, ceiling};
+ghost use Rattle.refusals.specs.Checks.{passed_with, granted_as};
+ghost use Rattle.refusals.specs.Holdings.{names_of};
+ghost use Rattle.refusals.specs.Ranges.{ceiling};
 ghost use Rattle.custody.specs.Meaning.{Alike, Bounded, answered, taken, released, taking_in, releasing, raised, lowered, if_granted};
 
-use refusals::{Fault, Refusal, check_range, limit};
+use refusals::{Fault, Holding, Refusal, check_range, limit};
 
+/// Who holds the units. Its calls take plain numbers: here numbers come in, and what is out of range is refused.
 pub trait Custody {
     /// The units held, by customer and asset.
     ghost units: { Self → ℕ → ℕ → ℕ };
@@ -27,8 +29,7 @@ pub trait Custody {
 
     /// The units held and the block depth.
     fn question(&self, customer: u64, asset: u64) -> Result<(u64, u8), Fault>
-        ensures result { result ≡ answered (units self.now) (depth self.now) customer asset }
-        ensures bounds { Bounded (units self.now) (depth self.now) };
+        ensures { result ≡ answered (units self.now) (depth self.now) customer asset };
 
     fn take_in(&mut self, customer: u64, asset: u64, amount: u64) -> Result<(), Fault>
         ensures result { result ≡ taken (units self.old) customer asset amount }
@@ -43,38 +44,41 @@ pub trait Custody {
         ensures depths { Alike (depth self.new) (depth self.old) }
         ensures moved { is_ok result ≡ true → gives self.old customer asset amount self.new }
         ensures refused { is_ok result ≡ false → self.new ≡ self.old };
+
+    /// Held units never pass the ceiling, and a block depth is at most 255.
+    ghost bounded: { (custody : Self) → Bounded (units custody) (depth custody) };
 }
 
-/// Every refusal of a taking in, by the units held.
-pub fn check_taking_in(held: u64, customer: u64, asset: u64, amount: u64) -> Result<(), Fault>
-    ensures result { result ≡ passed (taking_in held customer asset amount) }
-    ensures granted { is_ok result ≡ true → Known customer asset × (held + amount ≤ ceiling asset) }
+/// Every refusal of a taking in, by the units held; a grant hands out the holding.
+pub fn check_taking_in(held: u64, customer: u64, asset: u64, amount: u64) -> Result<Holding, Fault>
+    ensures result { granted_as names_of result ≡ passed_with (customer, asset) (taking_in held customer asset amount) }
+    ensures room { is_ok result ≡ true → held + amount ≤ ceiling asset }
 {
-    check_range(customer, asset, amount)?;
-    // Not held + amount: that sum could wrap.
-    if held > limit(asset) || amount > limit(asset) - held {
+    let holding = check_range(customer, asset, amount)?;
+    if held.saturating_add(amount) > limit(asset) {
         return Err(Fault::at(Refusal::Limit, customer, asset, 0));
     }
-    Ok(())
+    Ok(holding)
 }
 
-/// Every refusal of a release, by the units held and the block depth.
+/// Every refusal of a release, by the units held and the block depth; a grant hands out the holding.
 pub fn check_release(
     held: u64,
     depth: u8,
     customer: u64,
     asset: u64,
     amount: u64,
-) -> Result<(), Fault>
-    ensures result { result ≡ passed (releasing held depth customer asset amount) }
-    ensures granted { is_ok result ≡ true → Known customer asset × (depth ≡ 0) × (amount ≤ held) }
+) -> Result<Holding, Fault>
+    ensures result { granted_as names_of result ≡ passed_with (customer, asset) (releasing held depth customer asset amount) }
+    ensures free { is_ok result ≡ true → depth ≡ 0 }
+    ensures held { is_ok result ≡ true → amount ≤ held }
 {
-    check_range(customer, asset, amount)?;
+    let holding = check_range(customer, asset, amount)?;
     if depth > 0 {
         return Err(Fault::at(Refusal::Blocked, customer, asset, u64::from(depth)));
     }
     if amount > held {
         return Err(Fault::at(Refusal::NotHeld, customer, asset, 0));
     }
-    Ok(())
+    Ok(holding)
 }

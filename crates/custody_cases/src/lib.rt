@@ -223,6 +223,7 @@ mod tests {
                 Brought::Store(lots) => made(lots),
                 Brought::Step(step) => perform(&mut custody, step),
             };
+            // Not `assert_eq!`: it may end the process, and this helper would need a bound that allows it.
             if outcome != case.outcome {
                 return Err(Fail::from((outcome, case.outcome)));
             }

@@ -4,17 +4,18 @@ use Rattle.std.proofs.lemmas.Bool.{cases_Bool}
 use Rattle.std.proofs.lemmas.Bool.Decides.{nat_tests}
 use Rattle.std.proofs.lemmas.List.{drop_more, drop_all, take_more, take_all}
 use Rattle.refusals.specs.declared.Fault.{Fault}
-use Rattle.refusals.specs.Ranges.{Known}
+use Rattle.refusals.specs.Checks.{granted_as}
+use Rattle.refusals.specs.Ranges.{Known, spot}
 use Rattle.custody.specs.Meaning.{Figures, Alike, taken, released, raised, lowered}
 use Rattle.custody.proofs.Same.{named_same, taken_same, answered_same, released_same, replaced_same, after_same}
-use Rattle.reconciliation.specs.Breaks.{spot, marked, depth_over, depths_over, stating, marks_after}
+use Rattle.reconciliation.specs.Breaks.{marked, depth_over, depths_over, stating, marks_after}
 use Rattle.custody_day.specs.declared.steps.Step.{Step}
 use Rattle.custody_day.specs.declared.steps.Step.TheVariants.{TakeIn, Release, Statement, Question}
 use Rattle.custody_day.specs.declared.steps.Answer.{Answer}
 use Rattle.custody_day.specs.declared.steps.Answer.TheVariants.{Done, Difference, Holding}
 use Rattle.custody.specs.declared.Custody.{Ghosts as Custodian}
 use Rattle.reconciliation.specs.declared.Reconciliation.{Reconciliation}
-use Rattle.custody_day.specs.Steps.{with_answer, performed, held_after, breaks_after, held_in, depths_in, Stepped}
+use Rattle.custody_day.specs.Steps.{performed, held_after, breaks_after, held_in, depths_in, Stepped}
 use Rattle.custody_day.specs.Days.{line_of, told, told_of, Went}
 
 over_same : (d e : Figures) → Alike d e → (breaks : List Bool) → Alike (depths_over breaks d) (depths_over breaks e)
@@ -28,10 +29,10 @@ module _ (f g d e : Figures) (alike : Alike f g) (deep : Alike d e) where
   stating_same c a n = named_same c a _ _ _ _ (λ k. rw (alike c a k) refl)
 
   performed_same : (s : Step) → performed f d s ≡ performed g e s
-  performed_same (TakeIn c a n) = ap (with_answer (λ _. Done)) (taken_same f g alike c a n)
-  performed_same (Release c a n) = ap (with_answer (λ _. Done)) (released_same f g d e alike deep c a n)
-  performed_same (Statement c a n) = ap (with_answer Difference) (stating_same c a n)
-  performed_same (Question c a) = ap (with_answer (λ p. Holding p.0 p.1)) (answered_same f g d e alike deep c a 0)
+  performed_same (TakeIn c a n) = ap (granted_as (λ _. Done)) (taken_same f g alike c a n)
+  performed_same (Release c a n) = ap (granted_as (λ _. Done)) (released_same f g d e alike deep c a n)
+  performed_same (Statement c a n) = ap (granted_as Difference) (stating_same c a n)
+  performed_same (Question c a) = ap (granted_as (λ p. Holding p.0 p.1)) (answered_same f g d e alike deep c a 0)
 
   held_same : (s : Step) → Alike (held_after f d s) (held_after g e s)
   held_same (TakeIn c a n) =

@@ -1,6 +1,7 @@
 -- What a step of a custody day answers, and what it leaves.
-use Rattle.std.specs.Prelude.{◌≡◌, Bool, true, false, List, [], ◌∷◌, is_ok, Ok, Err, Result}
+use Rattle.std.specs.Prelude.{◌≡◌, Bool, true, false, List, [], ◌∷◌, is_ok, Result}
 use Rattle.refusals.specs.declared.Fault.{Fault}
+use Rattle.refusals.specs.Checks.{granted_as}
 use Rattle.custody.specs.declared.Custody.{Ghosts as Custodian}
 use Rattle.custody.specs.Meaning.{Figures, Alike, answered, taken, released, raised, lowered, if_granted}
 use Rattle.custody.specs.Movements.{Movement, taking, release, Moves}
@@ -11,17 +12,12 @@ use Rattle.custody_day.specs.declared.steps.Step.TheVariants.{TakeIn, Release, S
 use Rattle.custody_day.specs.declared.steps.Answer.{Answer}
 use Rattle.custody_day.specs.declared.steps.Answer.TheVariants.{Done, Difference, Holding}
 
--- The answer of a granted call, or its fault.
-abbrev pub with_answer : {X : Type 0} → (X → Answer) → Result X Fault → Result Answer Fault
-with_answer f (Ok x) = Ok (f x)
-with_answer f (Err e) = Err e
-
 -- By the units held and the block depths.
 abbrev pub performed : Figures → Figures → Step → Result Answer Fault
-performed held deep (TakeIn c a n) = with_answer (λ _. Done) (taken held c a n)
-performed held deep (Release c a n) = with_answer (λ _. Done) (released held deep c a n)
-performed held deep (Statement c a n) = with_answer Difference (stating held c a n)
-performed held deep (Question c a) = with_answer (λ p. Holding p.0 p.1) (answered held deep c a)
+performed held deep (TakeIn c a n) = granted_as (λ _. Done) (taken held c a n)
+performed held deep (Release c a n) = granted_as (λ _. Done) (released held deep c a n)
+performed held deep (Statement c a n) = granted_as Difference (stating held c a n)
+performed held deep (Question c a) = granted_as (λ p. Holding p.0 p.1) (answered held deep c a)
 
 -- The units held after it,
 abbrev pub held_after : Figures → Figures → Step → Figures

@@ -10,7 +10,7 @@ impl fmt::Display for Step {
     ghost output = { λ s. Some (shown_step s) };
 
     fn fmt<W: fmt::Write>(&self, f: &mut fmt::Formatter<W>) -> fmt::Result {
-        match *self {
+        match self {
             Step::TakeIn {
                 customer,
                 asset,
@@ -47,7 +47,7 @@ impl fmt::Display for Answer {
     ghost output = { λ a. Some (shown_answer a) };
 
     fn fmt<W: fmt::Write>(&self, f: &mut fmt::Formatter<W>) -> fmt::Result {
-        match *self {
+        match self {
             Answer::Done => write!(f, "done"),
             Answer::Difference(difference) => write!(f, "difference {difference}"),
             Answer::Holding { held, depth } => write!(f, "held {held}, block depth {depth}"),
@@ -67,11 +67,10 @@ impl fmt::Display for Report {
     ghost output = { λ r. Some (shown_report r.number r.step r.outcome) };
 
     fn fmt<W: fmt::Write>(&self, f: &mut fmt::Formatter<W>) -> fmt::Result {
-        let number = self.number;
-        let step = self.step;
-        match self.outcome {
-            Ok(answer) => write!(f, "{number} {step}: {answer}"),
-            Err(fault) => write!(f, "{number} {step}: {fault}"),
+        write!(f, "{} {}: ", self.number, self.step)?;
+        match &self.outcome {
+            Ok(answer) => write!(f, "{answer}"),
+            Err(fault) => write!(f, "{fault}"),
         }
     }
 }

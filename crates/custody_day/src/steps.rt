@@ -5,7 +5,7 @@ use custody::Custody;
 use reconciliation::Reconciliation;
 use refusals::Fault;
 
-/// What is asked of custody.
+/// What is asked of custody. A step is data and no closure, since it is also listed, compared and told in words.
 #[derive(Clone, Copy, PartialEq, Eq, Debug)]
 pub enum Step {
     TakeIn {

@@ -13,10 +13,7 @@ use std::fmt::Write;
 fn add_line(text: &mut String, report: Report) -> Result<(), AllocError>
     ensures { OnOk result (string_bytes text.new ≡ string_bytes text.old ++ line_of report.number report.step report.outcome) }
 {
-    match writeln!(text, "{report}") {
-        Ok(()) => Ok(()),
-        Err(_) => Err(AllocError),
-    }
+    writeln!(text, "{report}")
 }
 
 /// Performs steps in their order, and answers the text that tells of them. Where memory is wanting for the line of a

@@ -96,11 +96,9 @@ pub fn follow_day(heap: Global) -> Result<String, AllocError>
     ensures { IfOk result (λ text. string_bytes text ≡ text_of day_lines) }
 {
     let mut store = vec![in heap; Lot { units: 0 }; 2048]?;
-    match Lots::new(&mut store) {
-        Ok(lots) => {
-            let mut custody = Reconciliation::new(lots);
-            tell_day(heap, &mut custody, &DAY)
-        }
-        Err(_) => unreachable(),
-    }
+    let Ok(lots) = Lots::new(&mut store) else {
+        unreachable!();
+    };
+    let mut custody = Reconciliation::new(lots);
+    tell_day(heap, &mut custody, &DAY)
 }

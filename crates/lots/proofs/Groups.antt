@@ -1,9 +1,8 @@
 -- The eight lots of a customer and asset: where units go, and what each step of a release leaves.
-use Rattle.std.proofs.Common.{◌≡◌, ℕ, zero, suc, ◌+◌, ◌-◌, ◌<◌, ◌≤◌, true, false, cond, leb, ◌≢◌, List, [], ◌∷◌, ◌++◌, length, get_or, take, drop, Some, None, sym, refl, ap, ◌∙◌, ⊎_elim, arith}
-use Rattle.std.specs.List.{prefix_len}
-use Rattle.std.proofs.lemmas.List.{take_all, get_or-take, length-take-le, set_at, length-set, length-append}
-use Rattle.std.proofs.lemmas.List.Sums.{sum_by-set, sum_by-append, sum_by-cons, prefix_len-drop_yes, prefix_len-drop_no, prefix_len-le-length}
-use Rattle.std.proofs.lemmas.Bool.{eq-eqb, ne_eqb, le-leb, lt-leb, cases_lt, cases_Bool, cond_both}
+use Rattle.std.proofs.Common.{◌≡◌, ℕ, zero, suc, ◌+◌, ◌-◌, ◌<◌, ◌≤◌, true, false, cond, leb, List, [], ◌∷◌, ◌++◌, length, get_or, take, Some, None, sym, refl, ap, ◌∙◌, ⊎_elim, arith}
+use Rattle.std.proofs.lemmas.List.{take_all, length-take-le, set_at, length-set, length-append}
+use Rattle.std.proofs.lemmas.List.Sums.{sum_by-set, sum_by-append, sum_by-cons, prefix_len-le-length}
+use Rattle.std.proofs.lemmas.Bool.{le-leb, lt-leb, cases_lt, cases_Bool, cond_both}
 use Rattle.lots.specs.Groups.{lot, units_of, total, used, lot_for_more, grown, added, oldest, moved_up, opened, paid}
 use Rattle.lots.specs.declared.group.Lot.{Lot}
 
@@ -11,16 +10,6 @@ use Rattle.lots.specs.declared.group.Lot.{Lot}
 module _ (g : List Lot) (eight : length g ≡ 8) where
   seven : length (take 7 g) ≡ 7
   seven = length-take-le 7 g (omega arith)
-
-  pub go_on : (i : ℕ) → i < 7 → units_of (get_or g i (lot 0)) ≢ 0 → prefix_len used (drop i (take 7 g)) ≡ 1 + prefix_len used (drop (i + 1) (take 7 g))
-  go_on i h some =
-      prefix_len-drop_yes used (take 7 g) i (lot 0) (omega (arith, seven))
-      (rw (get_or-take 7 g i (lot 0) h, ne_eqb (units_of (get_or g i (lot 0))) 0 some) refl)
-
-  pub stop_at : (i : ℕ) → i < 7 → units_of (get_or g i (lot 0)) ≡ 0 → prefix_len used (drop i (take 7 g)) ≡ 0
-  stop_at i h none =
-      prefix_len-drop_no used (take 7 g) i (lot 0) (omega (arith, seven))
-      (rw (get_or-take 7 g i (lot 0) h, eq-eqb (units_of (get_or g i (lot 0))) 0 none) refl)
 
   lot_for_more_within : lot_for_more g < 8
   lot_for_more_within = omega (arith, prefix_len-le-length used (take 7 g), seven)

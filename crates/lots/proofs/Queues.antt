@@ -1,6 +1,5 @@
 -- The lots of a store are queues, whatever movements come.
-use Rattle.std.proofs.Common.{◌≡◌, ℕ, zero, suc, ◌+◌, ◌-◌, ◌<◌, ◌≤◌, min, Bool, true, false, cond, ◌&&◌, eqb, ltb, leb, ◌≢◌, List, [], ◌∷◌, ◌++◌, length, get_or, take, set, replicate, is_ok, sum, Result, sym, refl, ap, ◌∙◌, inl, inr, ⊎_elim, arith}
-use Rattle.refusals.specs.declared.Fault.{Fault}
+use Rattle.std.proofs.Common.{◌≡◌, ℕ, zero, suc, ◌+◌, ◌-◌, ◌<◌, ◌≤◌, min, Bool, true, false, cond, ◌&&◌, eqb, ltb, leb, ◌≢◌, List, [], ◌∷◌, ◌++◌, length, get_or, take, set, replicate, is_ok, sum, sym, refl, ap, ◌∙◌, inl, inr, ⊎_elim, arith}
 use Rattle.std.specs.List.{prefix_len, AllByRecursion as All}
 use Rattle.std.proofs.lemmas.Bool.{cases_lt, cases_Bool, cases_eq, eq-eqb, ne_eqb, le-leb, lt-leb, lt-ltb, le-ltb, ltb-true, leb-true, leb-false, eqb-true, and_parts, cond_both, both_ways}
 use Rattle.std.proofs.lemmas.List.{get_or_past, set-get_or, length-append, length-set, length-replicate, drop-replicate, take-replicate}
@@ -12,7 +11,7 @@ use Rattle.custody.specs.Movements.{Movement, taking, release}
 use Rattle.custody.proofs.Outcomes.{taken_tells, released_tells, taken_is, released_is}
 use Rattle.lots.specs.declared.group.Lot.{Lot}
 use Rattle.lots.specs.Groups.{lot, units_of, total, used, lot_for_more, added, moved_up, paid}
-use Rattle.lots.specs.Stores.{is_store, prepared, cleared, place, group, with_group, sound, held, blocked, stored, drawn}
+use Rattle.lots.specs.Stores.{place, group, with_group, sound, Sound, held, blocked, stored, drawn}
 use Rattle.lots.specs.Queues.{joined, left, is_of, queue_after, queue, lots_of, store_after, stores, Shows, FirstInFirstOut}
 use Rattle.lots.proofs.Groups.{moved_up_is, length_added, length_paid, total_added, total_paid}
 use Rattle.lots.proofs.Stores.{length_group, length_with_group, group_same, group_other, sound_from}
@@ -173,6 +172,7 @@ module _ (store : List Lot) (c a : ℕ) (k : Known c a) (q : List ℕ) (is : Que
   stays_sound = sound_from store c a is.long (omega (arith, group_total, is.room))
 
   shows : Shows store c a q
+  unfolding held blocked
   shows =
       record {
         lots = is.lots;
@@ -292,14 +292,12 @@ cleared_queues n long ms c a k =
       room = omega arith;
     })
 
--- So does every store that is made.
-pub made_queues :
-    (store after : List Lot) (r : Result (Unit {0}) Fault) → r ≡ prepared store → after ≡ cleared store → is_ok r ≡ true
-    → FirstInFirstOut after
-made_queues store after r er ea ok =
+-- No account is made of an unsound store.
+pub made_sound : (store : List Lot) → FirstInFirstOut store → Sound store
+unfolding blocked
+made_sound store queues c a k =
+    let free : blocked store c a ≡ 0 = (queues [] c a k).free in
     ⊎_elim
-    (λ (t : is_store store ≡ true).
-    let whole : after ≡ replicate (length store) (lot 0) = ea ∙ rw t refl in
-    rw whole (cleared_queues (length store) (leb-true 2048 (length store) t)))
-    (λ (t : is_store store ≡ false). let fails : is_ok r ≡ false = ap is_ok er ∙ rw t refl in absurd (both_ways (is_ok r) fails ok))
-    (cases_Bool (is_store store))
+    (λ (t : sound store c a ≡ true). t)
+    (λ (t : sound store c a ≡ false). let full : blocked store c a ≡ 255 = rw t refl in absurd (omega (arith, free)))
+    (cases_Bool (sound store c a))

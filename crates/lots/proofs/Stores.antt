@@ -1,14 +1,14 @@
 -- The store of lots: one group replaced leaves the others, and what each call leaves of the figures.
-use Rattle.std.proofs.Common.{◌≡◌, ℕ, ◌+◌, ◌-◌, ◌<◌, ◌≤◌, true, false, leb, ◌≢◌, ◌⊎◌, List, length, take, drop, is_ok, Result, sym, refl, ap, ◌∙◌, inl, inr, ⊎_elim, arith}
+use Rattle.std.proofs.Common.{◌≡◌, ℕ, ◌+◌, ◌-◌, ◌<◌, ◌≤◌, true, leb, ◌≢◌, ◌⊎◌, List, length, take, drop, sym, refl, ap, ◌∙◌, inl, inr, ⊎_elim, arith}
 use Rattle.std.proofs.lemmas.List.{length-append, length-take-le, length-drop}
 use Rattle.std.proofs.lemmas.Slice.{between_is, take-put_mid_below, drop-put_mid, between-put_mid}
-use Rattle.std.proofs.lemmas.Bool.{cases_lt, cases_eq, cases_Bool, le-leb, eq-eqb, ne_eqb, and_from, and_parts, leb-true, cond_both, both_ways}
-use Rattle.refusals.specs.declared.Fault.{Fault}
+use Rattle.std.proofs.lemmas.Bool.{cases_lt, cases_eq, le-leb, eq-eqb, and_from, and_parts, leb-true}
+use Rattle.refusals.specs.declared.holding.Holding.{Holding}
 use Rattle.refusals.specs.Ranges.{Known, ceiling}
-use Rattle.custody.specs.Meaning.{Alike, Bounded, with_figure, raised, lowered, if_granted, taken, released}
-use Rattle.custody.proofs.Outcomes.{taken_tells, released_tells, with_figure_same}
+use Rattle.custody.specs.Meaning.{Alike, with_figure}
+use Rattle.custody.proofs.Outcomes.{figure_apart}
 use Rattle.lots.specs.Groups.{total, added, paid}
-use Rattle.lots.specs.Stores.{place, eight_at, with_eight, group, with_group, sound, held, blocked, stored, drawn}
+use Rattle.lots.specs.Stores.{place, eight_at, with_eight, group, with_group, sound, Sound, with_more, with_less, held, blocked}
 use Rattle.lots.specs.declared.group.Lot.{Lot}
 use Rattle.lots.proofs.Groups.{total_paid, total_added, length_added, length_paid}
 
@@ -63,112 +63,81 @@ sound_parts store c a e =
 pub sound_from : (store : List Lot) (c a : ℕ) → 2048 ≤ length store → total (group store c a) ≤ ceiling a → sound store c a ≡ true
 sound_from store c a h l = and_from _ _ (le-leb _ _ h) (le-leb _ _ l)
 
-pub bounded : (store : List Lot) → Bounded (held store) (blocked store)
-bounded store c a k = (
-  cond_both (sound store c a) (total (group store c a)) (ceiling a) (λ n. n ≤ ceiling a) (λ e. (sound_parts store c a e).1) (λ _. omega arith),
-  cond_both (sound store c a) 0 255 (λ n. n ≤ 255) (λ _. omega arith) (λ _. omega arith),
-)
-
--- Another group within the ceiling in its place: one figure is that group's, and no other changes.
-regrouped_figures :
-    (store : List Lot) (c a : ℕ) (g : List Lot) → Known c a → sound store c a ≡ true → length g ≡ 8 → total g ≤ ceiling a
-    → Alike (held (with_group store c a g)) (with_figure (held store) c a (total g)) × Alike (blocked (with_group store c a g)) (blocked store)
-regrouped_figures store c a g k s eight room =
-    let long = (sound_parts store c a s).0 in
-    let len = length_with_group store long c a k g eight in
-    let same = group_same store long c a k g eight in
-    let s' : sound (with_group store c a g) c a ≡ true = sound_from (with_group store c a g) c a (omega arith) (rw same room) in
-    let both : (x y : ℕ) → Known x y → (held (with_group store c a g) x y ≡ with_figure (held store) c a (total g) x y) × (blocked (with_group store c a g) x y ≡ blocked store x y) =
-    λ x y m.
-    ⊎_elim
-    (λ (ex : x ≡ c).
-    ⊎_elim
-    (λ (ey : y ≡ a). rw (ex, ey) (rw (s', same, eq-eqb c c refl, eq-eqb a a refl) refl, rw (s', s) refl))
-    (λ (ey : y ≢ a).
-    let other = group_other store long c a k g eight x y m (λ _ f. ey f) in
-    (rw (other, len, eq-eqb x c ex, ne_eqb y a ey) refl, rw (other, len) refl))
-    (cases_eq y a))
-    (λ (ex : x ≢ c).
-    let other = group_other store long c a k g eight x y m (λ e _. ex e) in
-    (rw (other, len, ne_eqb x c ex) refl, rw (other, len) refl))
-    (cases_eq x c)
-    in
-    (λ x y m. (both x y m).0, λ x y m. (both x y m).1)
-
--- What a call leaves of the figures and, refused, of the store.
-pub record Left (r : Result (Unit {0}) Fault) (granted : ℕ → ℕ → ℕ) (store after : List Lot) : Type 0 where
-  pub figures : Alike (held after) (if_granted r granted (held store))
-  pub depths : Alike (blocked after) (blocked store)
-  pub refused : is_ok r ≡ false → after ≡ store
-
-left_refused : (r : Result (Unit {0}) Fault) (granted : ℕ → ℕ → ℕ) (store after : List Lot) → is_ok r ≡ false → after ≡ store → Left r granted store after
-left_refused r granted store after fails same =
-    record {
-      figures = λ x y m. rw (fails, same) refl;
-      depths = λ x y m. rw same refl;
-      refused = λ _. same;
-    }
-
-left_granted :
-    (r : Result (Unit {0}) Fault) (granted : ℕ → ℕ → ℕ) (store after : List Lot) → is_ok r ≡ true
-    → Alike (held after) granted → Alike (blocked after) (blocked store) → Left r granted store after
-left_granted r granted store after ok f d =
-    record {
-      figures = λ x y m. rw ok (f x y m);
-      depths = d;
-      refused = λ no. absurd (both_ways (is_ok r) no ok);
-    }
-
-left_regrouped :
-    (r : Result (Unit {0}) Fault) (store after : List Lot) (c a v : ℕ) (g : List Lot) → is_ok r ≡ true → Known c a → sound store c a ≡ true
-    → length g ≡ 8 → total g ≡ v → v ≤ ceiling a → after ≡ with_group store c a g → Left r (with_figure (held store) c a v) store after
-left_regrouped r store after c a v g ok k s eight sum room is =
-    let f = regrouped_figures store c a g k s eight (omega arith) in
-    rw is
-    (left_granted r (with_figure (held store) c a v) store (with_group store c a g) ok
-    (λ x y m. f.0 x y m ∙ ap (λ n. with_figure (held store) c a n x y) sum) f.1)
-
 held_sound : (store : List Lot) (c a : ℕ) → sound store c a ≡ true → held store c a ≡ total (group store c a)
+unfolding held
 held_sound store c a s = rw s refl
 
-pub left_stored :
-    (store : List Lot) (c a n : ℕ) (r : Result (Unit {0}) Fault) (after : List Lot) → r ≡ taken (held store) c a n → after ≡ stored store c a n
-    → Left r (raised (held store) c a n) store after
-left_stored store c a n r after er ea =
-    ⊎_elim
-    (λ (ok : is_ok (taken (held store) c a n) ≡ true).
-    let t = taken_tells (held store) c a n ok in
-    ⊎_elim
-    (λ (s : sound store c a ≡ true).
-    let eight : length (group store c a) ≡ 8 = length_group store (sound_parts store c a s).0 c a t.0 in
-    left_regrouped r store after c a (held store c a + n) (added (group store c a) n) (ap is_ok er ∙ ok) t.0 s
-    (length_added (group store c a) n ∙ eight)
-    (omega (arith, total_added (group store c a) eight n, held_sound store c a s)) t.2 (ea ∙ rw (ok, s) refl))
-    (λ (s : sound store c a ≡ false).
-    let full : held store c a ≡ ceiling a = rw s refl in
-    let is : after ≡ store = ea ∙ rw (ok, s) refl in
-    rw is
-    (left_granted r (raised (held store) c a n) store store (ap is_ok er ∙ ok)
-    (λ x y m. sym (with_figure_same (held store) c a (held store c a + n) x y (omega (arith, t.2)))) (λ x y m. refl)))
-    (cases_Bool (sound store c a)))
-    (λ (fails : is_ok (taken (held store) c a n) ≡ false). left_refused r (raised (held store) c a n) store after (ap is_ok er ∙ fails) (ea ∙ rw fails refl))
-    (cases_Bool (is_ok (taken (held store) c a n)))
+free_sound : (store : List Lot) (c a : ℕ) → sound store c a ≡ true → blocked store c a ≡ 0
+unfolding blocked
+free_sound store c a s = rw s refl
 
-pub left_drawn :
-    (store : List Lot) (c a n : ℕ) (r : Result (Unit {0}) Fault) (after : List Lot)
-    → r ≡ released (held store) (blocked store) c a n → after ≡ drawn store c a n → Left r (lowered (held store) c a n) store after
-left_drawn store c a n r after er ea =
-    ⊎_elim
-    (λ (ok : is_ok (released (held store) (blocked store) c a n) ≡ true).
-    let t = released_tells (held store) (blocked store) c a n ok in
-    ⊎_elim
-    (λ (s : sound store c a ≡ true).
-    let eight : length (group store c a) ≡ 8 = length_group store (sound_parts store c a s).0 c a t.0 in
-    let h = held_sound store c a s in
-    left_regrouped r store after c a (held store c a - n) (paid 8 (group store c a) n) (ap is_ok er ∙ ok) t.0 s
-    (length_paid 8 (group store c a) n eight)
-    (omega (arith, total_paid (group store c a) n eight (omega (arith, t.3)))) (omega (arith, (sound_parts store c a s).1)) (ea ∙ rw ok refl))
-    (λ (s : sound store c a ≡ false). let b : blocked store c a ≡ 255 = rw s refl in absurd (omega (arith, t.2)))
-    (cases_Bool (sound store c a)))
-    (λ (fails : is_ok (released (held store) (blocked store) c a n) ≡ false). left_refused r (lowered (held store) c a n) store after (ap is_ok er ∙ fails) (ea ∙ rw fails refl))
-    (cases_Bool (is_ok (released (held store) (blocked store) c a n)))
+-- One group replaced by another within the ceiling: every group is sound, one figure is that group's, no other changes, and
+-- nothing is blocked.
+pub record Regrouped (store after : List Lot) (c a v : ℕ) : Type 0 where
+  pub sound : Sound after
+  pub figures : Alike (held after) (with_figure (held store) c a v)
+  pub depths : Alike (blocked after) (blocked store)
+
+module _ (store : List Lot) (s : Sound store) (of : Holding) where
+  long : 2048 ≤ length store
+  long = (sound_parts store of.customer of.asset (s of.customer of.asset of.known)).0
+
+  own_eight : length (group store of.customer of.asset) ≡ 8
+  own_eight = length_group store long of.customer of.asset of.known
+
+  own_held : held store of.customer of.asset ≡ total (group store of.customer of.asset)
+  own_held = held_sound store of.customer of.asset (s of.customer of.asset of.known)
+
+  -- What holds of the new group, and of the others as they stood, holds of each.
+  each_group :
+      (g : List Lot) → length g ≡ 8 → (P : ℕ → ℕ → List Lot → Type 0) → P of.customer of.asset g
+      → ((x y : ℕ) → Known x y → (x ≡ of.customer → y ≡ of.asset → ⊥) → P x y (group store x y))
+      → (x y : ℕ) → Known x y → P x y (group (with_group store of.customer of.asset g) x y)
+  each_group g eight P own other x y m =
+      let apart : (x ≡ of.customer → y ≡ of.asset → ⊥) → P x y (group (with_group store of.customer of.asset g) x y) =
+      λ d. rw (group_other store long of.customer of.asset of.known g eight x y m d) (other x y m d)
+      in
+      ⊎_elim
+      (λ (ex : x ≡ of.customer).
+      ⊎_elim
+      (λ (ey : y ≡ of.asset). rw (ex, ey, group_same store long of.customer of.asset of.known g eight) own)
+      (λ (ey : y ≢ of.asset). apart (λ _ f. ey f))
+      (cases_eq y of.asset))
+      (λ (ex : x ≢ of.customer). apart (λ e _. ex e))
+      (cases_eq x of.customer)
+
+  regrouped :
+      (g : List Lot) (v : ℕ) → length g ≡ 8 → total g ≡ v → v ≤ ceiling of.asset
+      → Regrouped store (with_group store of.customer of.asset g) of.customer of.asset v
+  regrouped g v eight sum room =
+      let to = with_group store of.customer of.asset g in
+      let len : length to ≡ length store = length_with_group store long of.customer of.asset of.known g eight in
+      let most : (x y : ℕ) → Known x y → total (group to x y) ≤ ceiling y =
+      each_group g eight (λ x y h. total h ≤ ceiling y) (omega arith) (λ x y m d. (sound_parts store x y (s x y m)).1)
+      in
+      let whole : Sound to = λ x y m. sound_from to x y (omega (arith, long)) (most x y m) in
+      record {
+        sound = whole;
+        figures =
+            λ x y m.
+            held_sound to x y (whole x y m)
+            ∙ each_group g eight (λ x y h. total h ≡ with_figure (held store) of.customer of.asset v x y)
+            (sum ∙ rw (eq-eqb of.customer of.customer refl, eq-eqb of.asset of.asset refl) refl)
+            (λ x y m d. sym (held_sound store x y (s x y m)) ∙ sym (figure_apart (held store) of.customer of.asset v x y d)) x y m;
+        depths = λ x y m. free_sound to x y (whole x y m) ∙ sym (free_sound store x y (s x y m));
+      }
+
+  pub after_taking :
+      (n : ℕ) → held store of.customer of.asset + n ≤ ceiling of.asset
+      → Regrouped store (with_more store of.customer of.asset n) of.customer of.asset (held store of.customer of.asset + n)
+  after_taking n room =
+      let g = group store of.customer of.asset in
+      regrouped (added g n) _ (length_added g n ∙ own_eight) (omega (arith, total_added g own_eight n, own_held)) room
+
+  pub after_release :
+      (n : ℕ) → n ≤ held store of.customer of.asset
+      → Regrouped store (with_less store of.customer of.asset n) of.customer of.asset (held store of.customer of.asset - n)
+  after_release n enough =
+      let g = group store of.customer of.asset in
+      let most = (sound_parts store of.customer of.asset (s of.customer of.asset of.known)).1 in
+      regrouped (paid 8 g n) _ (length_paid 8 g n own_eight) (omega (arith, total_paid g n own_eight (omega (arith, own_held)), own_held)) (omega (arith, own_held))

@@ -1,11 +1,13 @@
 -- The store of lots: eight for each customer and asset, by customer, then asset.
-use Rattle.std.specs.Prelude.{ℕ, ◌+◌, ◌-◌, ◌*◌, Bool, cond, ◌&&◌, List, [], ◌∷◌, ◌++◌, length, take, drop, replicate, is_ok, Result, nat_le}
+use Rattle.std.specs.Prelude.{◌≡◌, ℕ, ◌+◌, ◌-◌, ◌*◌, Bool, true, cond, ◌&&◌, List, [], ◌∷◌, ◌++◌, length, take, drop, replicate, is_ok, Result, nat_le}
+use Rattle.std.proofs.Common.{arith}
+use Rattle.std.proofs.lemmas.Bool.Decides.{nat_tests}
 use Rattle.refusals.specs.declared.Refusal.TheVariants.{FewLots}
 use Rattle.refusals.specs.declared.Fault.{Fault}
 use Rattle.refusals.specs.Refusals.{fault}
 use Rattle.refusals.specs.Checks.{Check, passed}
-use Rattle.refusals.specs.Ranges.{ceiling}
-use Rattle.custody.specs.Meaning.{Figures, taken, released}
+use Rattle.refusals.specs.Ranges.{Known, ceiling}
+use Rattle.custody.specs.Meaning.{Figures, Bounded, taken, released}
 use Rattle.lots.specs.declared.group.Lot.{Lot}
 use Rattle.lots.specs.Groups.{lot, total, added, paid}
 
@@ -48,19 +50,34 @@ with_group store c a g = with_eight store (place c a) g
 abbrev pub sound : List Lot → ℕ → ℕ → Bool
 sound store c a = is_store store && nat_le (total (group store c a)) (ceiling a)
 
+-- What holds of every account: no group of its store is unsound.
+abbrev pub Sound : List Lot → Type 0
+Sound store = (c a : ℕ) → Known c a → sound store c a ≡ true
+
 -- Held units are those of the eight lots; the ceiling stands for what was never made.
-abbrev pub held : List Lot → Figures
+unfoldable pub held : List Lot → Figures
 held store c a = cond (sound store c a) (total (group store c a)) (ceiling a)
 
 -- Lots never block; 255 stands for what was never made.
-abbrev pub blocked : List Lot → Figures
+unfoldable pub blocked : List Lot → Figures
 blocked store c a = cond (sound store c a) 0 255
 
--- ---- the store after a call; a refused one leaves it
+-- So the figures of any list of lots are in range.
+pub within_bounds : (store : List Lot) → Bounded (held store) (blocked store)
+unfolding held blocked
+within_bounds store c a k = (grind (arith, nat_tests), grind (arith, nat_tests))
+
+-- ---- the store after a call
+-- The store with more units of a customer and asset, or with less: their own group changes, and no other.
+abbrev pub with_more : List Lot → ℕ → ℕ → ℕ → List Lot
+with_more store c a n = with_group store c a (added (group store c a) n)
+
+abbrev pub with_less : List Lot → ℕ → ℕ → ℕ → List Lot
+with_less store c a n = with_group store c a (paid 8 (group store c a) n)
+
+-- A refused call leaves the store.
 abbrev pub stored : List Lot → ℕ → ℕ → ℕ → List Lot
-stored store c a n =
-    cond (is_ok (taken (held store) c a n) && sound store c a) (with_group store c a (added (group store c a) n)) store
+stored store c a n = cond (is_ok (taken (held store) c a n) && sound store c a) (with_more store c a n) store
 
 abbrev pub drawn : List Lot → ℕ → ℕ → ℕ → List Lot
-drawn store c a n =
-    cond (is_ok (released (held store) (blocked store) c a n)) (with_group store c a (paid 8 (group store c a) n)) store
+drawn store c a n = cond (is_ok (released (held store) (blocked store) c a n)) (with_less store c a n) store

@@ -1,56 +1,40 @@
 //! The eight lots of one customer and asset, oldest first.
-ghost use Rattle.std.specs.Prelude.{◌≡◌, ◌+◌, ◌-◌, ◌^◌, ◌<◌, ◌≤◌, min, length, if◌then◌else◌, Some, None, nat_le};
-ghost use Rattle.lots.specs.Groups.{lot, total, lot_for_more, grown, added, oldest, moved_up, opened, paid};
+//! They come as a lent slice, as the store does: with a `&mut [Lot; 8]` what the store holds afterwards could not be proved.
+ghost use Rattle.std.specs.Prelude.{◌≡◌, ◌+◌, ◌-◌, ◌^◌, ◌<◌, ◌≤◌, length, if◌then◌else◌, Some, None, nat_le};
+ghost use Rattle.std.specs.List.{prefix_len};
+ghost use Rattle.lots.specs.Groups.{total, used, added, oldest, moved_up, opened, paid};
 
 /// Units that came in together, or joined the newest lot. An unused lot holds zero.
-#[derive(Clone, Copy)]
+#[derive(Clone, Copy, PartialEq, Eq, Debug)]
 pub struct Lot {
     pub units: u64,
 }
 
-/// The units in some lots, or the largest number where they are more.
+/// The units in some lots.
 pub(crate) fn held_in(group: &[Lot]) -> u64
-    ensures { result ≡ min (total group.now) (2 ^ 64 - 1) }
+    requires { total group.now < 2 ^ 64 }
+    ensures { result ≡ total group.now }
 {
-    let mut sum: u64 = 0;
-    for lot in group {
-        sum = sum.saturating_add(lot.units);
-    }
-    sum
+    group.iter().map(|lot| lot.units).sum()
 }
 
-/// Where units that come in go.
-fn find_lot(group: &[Lot]) -> usize
-    requires eight { length group.now ≡ 8 }
-    ensures found { result ≡ lot_for_more group.now }
-    ensures within { result ≤ 7 }
+/// How many lots at the front are used.
+fn used_in_front(lots: &[Lot]) -> usize
+    ensures count { result ≡ prefix_len used lots.now }
+    ensures within { result ≤ length lots.now }
 {
-    for i in 0..7usize {
-        if group[i].units == 0 {
-            return i;
-        }
-    }
-    7
-}
-
-/// A lot that units join.
-fn grow(lot: Lot, amount: u64) -> Lot
-    requires { lot.units + amount < 2 ^ 64 }
-    ensures { result ≡ grown lot amount }
-{
-    Lot {
-        units: lot.units + amount,
-    }
+    lots.iter().take_while(|lot| lot.units != 0).count()
 }
 
 /// Units come in: a new lot, or more in the newest.
+#[tactic(auto, unfolding(crate::specs::Groups::added))]
 pub(crate) fn add_to(group: &mut [Lot], amount: u64)
     requires eight { length group.old ≡ 8 }
     requires fits { total group.old + amount < 2 ^ 64 }
     ensures { group.new ≡ added group.old amount }
 {
-    let i = find_lot(group);
-    group[i] = grow(group[i], amount);
+    let i = used_in_front(&group[..7]);
+    group[i].units += amount;
 }
 
 /// The oldest lot is emptied, and those left move up.
@@ -69,14 +53,12 @@ fn pay_oldest(group: &mut [Lot], amount: u64) -> Option<u64>
     ensures after { group.new ≡ (if nat_le (oldest group.old) amount then moved_up group.old else opened group.old amount) }
 {
     let first = group[0].units;
-    if amount < first {
-        group[0] = Lot {
-            units: first - amount,
-        };
+    let Some(rest) = amount.checked_sub(first) else {
+        group[0].units = first - amount;
         return None;
-    }
+    };
     move_up(group);
-    Some(amount - first)
+    Some(rest)
 }
 
 /// Units go out: the oldest lots first.
@@ -85,10 +67,12 @@ pub(crate) fn pay_from(group: &mut [Lot], amount: u64)
     ensures { group.new ≡ paid 8 group.old amount }
 {
     let mut left = amount;
+    // The turn indexes nothing. Each empties a lot, and there are eight: of empty lots with nothing left to pay, a loop
+    // without a count would go on.
     for turn in 0..8usize {
-        match pay_oldest(group, left) {
-            Some(rest) => left = rest,
-            None => return,
-        }
+        let Some(rest) = pay_oldest(group, left) else {
+            return;
+        };
+        left = rest;
     }
 }

@@ -3,15 +3,17 @@
 
 #![tactic(auto)]
 
-ghost use Rattle.std.specs.Prelude.{◌≡◌, is_ok, IfOk, MatchResult};
+ghost use Rattle.std.specs.Prelude.{◌≡◌, ◌+◌, ◌≤◌, is_ok, IfOk, MatchResult};
 ghost use Rattle.refusals.specs.declared.Refusal.TheVariants.{FewLots};
 ghost use Rattle.refusals.specs.Refusals.{fault};
+ghost use Rattle.refusals.specs.Ranges.{ceiling};
+ghost use Rattle.custody.specs.Meaning.{Alike, raised, lowered};
 ghost use Rattle.lots.specs.Queues.{FirstInFirstOut};
-ghost use Rattle.lots.specs.Stores.{is_store, cleared, held, blocked, stored, drawn};
+ghost use Rattle.lots.specs.Stores.{is_store, Sound, with_more, with_less, cleared, held, blocked, within_bounds, stored, drawn};
 
-use custody::Custody;
-use refusals::Fault;
-use store::{ask, prepare_queues, release_units, take_units};
+use custody::{Custody, check_release, check_taking_in};
+use refusals::{Fault, Holding, check_names};
+use store::{add_lot, held_of, pay_lots};
 
 mod group;
 mod store;
@@ -23,6 +25,7 @@ pub use store::prepare;
 #[derive(Drop)]
 pub struct Lots<'a> {
     store: &'a mut [Lot],
+    ghost sound: { Sound store.now },
 }
 
 impl<'a> Lots<'a> {
@@ -32,8 +35,30 @@ impl<'a> Lots<'a> {
         ensures store { MatchResult result (λ l. l.store.now ≡ cleared store.old) (λ f. f ≡ fault FewLots 0) }
         ensures queues { IfOk result (λ l. FirstInFirstOut l.store.now) }
     {
-        prepare_queues(store)?;
+        prepare(store)?;
         Ok(Lots { store })
+    }
+}
+
+impl Lots<'_> {
+    /// Units come in; there is room for them.
+    fn add(&mut self, holding: Holding, amount: u64)
+        requires { held self.old.store.now holding.customer holding.asset + amount ≤ ceiling holding.asset }
+        ensures after { self.new.store.now ≡ with_more self.old.store.now holding.customer holding.asset amount }
+        ensures figures { Alike (held self.new.store.now) (raised (held self.old.store.now) holding.customer holding.asset amount) }
+        ensures depths { Alike (blocked self.new.store.now) (blocked self.old.store.now) }
+    {
+        add_lot(self.store, holding, amount);
+    }
+
+    /// Units go out; so many are held.
+    fn pay(&mut self, holding: Holding, amount: u64)
+        requires { amount ≤ held self.old.store.now holding.customer holding.asset }
+        ensures after { self.new.store.now ≡ with_less self.old.store.now holding.customer holding.asset amount }
+        ensures figures { Alike (held self.new.store.now) (lowered (held self.old.store.now) holding.customer holding.asset amount) }
+        ensures depths { Alike (blocked self.new.store.now) (blocked self.old.store.now) }
+    {
+        pay_lots(self.store, holding, amount);
     }
 }
 
@@ -46,15 +71,25 @@ impl Custody for Lots<'_> {
 
     ghost gives = { λ s c a n t. t.store.now ≡ drawn s.store.now c a n };
 
+    ghost bounded = { λ s. within_bounds s.store.now };
+
+    #[tactic(auto, unfolding(crate::specs::Stores::blocked))]
     fn question(&self, customer: u64, asset: u64) -> Result<(u64, u8), Fault> {
-        ask(self.store, customer, asset)
+        let holding = check_names(customer, asset)?;
+        Ok((held_of(self.store, holding), 0))
     }
 
     fn take_in(&mut self, customer: u64, asset: u64, amount: u64) -> Result<(), Fault> {
-        take_units(self.store, customer, asset, amount)
+        let (held, _depth) = self.question(customer, asset)?;
+        let holding = check_taking_in(held, customer, asset, amount)?;
+        self.add(holding, amount);
+        Ok(())
     }
 
     fn release(&mut self, customer: u64, asset: u64, amount: u64) -> Result<(), Fault> {
-        release_units(self.store, customer, asset, amount)
+        let (held, depth) = self.question(customer, asset)?;
+        let holding = check_release(held, depth, customer, asset, amount)?;
+        self.pay(holding, amount);
+        Ok(())
     }
 }

@@ -1,15 +1,11 @@
 -- Break marks, and what a statement of the custodian answers.
-use Rattle.std.specs.Prelude.{ℕ, ◌+◌, ◌-◌, ◌*◌, Bool, false, cond, not, List, ℤ, pos, ◌-ℤ◌, is_ok, Result, ◌==◌, slice_index_or, slice_set}
+use Rattle.std.specs.Prelude.{ℕ, Bool, false, cond, not, List, ℤ, pos, ◌-ℤ◌, is_ok, Result, ◌==◌, slice_index_or, slice_set}
 use Rattle.refusals.specs.declared.Fault.{Fault}
 use Rattle.refusals.specs.Checks.{passed_with}
-use Rattle.refusals.specs.Ranges.{range_checks}
+use Rattle.refusals.specs.Ranges.{spot, range_checks}
 use Rattle.custody.specs.Meaning.{Figures, one_deeper}
 
--- The marks stand by customer, then asset.
-abbrev pub spot : ℕ → ℕ → ℕ
-spot c a = 4 * (c - 1) + (a - 1)
-
--- Whether a customer and asset is under a break mark.
+-- The marks stand by customer, then asset: whether a customer and asset is under a break mark.
 abbrev pub marked : List Bool → ℕ → ℕ → Bool
 marked breaks c a = slice_index_or breaks (spot c a) false
 
@@ -30,9 +26,9 @@ is_break stated held = not (stated == held)
 
 -- A statement answers stated less held,
 abbrev pub stating : Figures → ℕ → ℕ → ℕ → Result ℤ Fault
-stating held c a stated = passed_with (pos stated -ℤ pos (held c a)) (range_checks c a stated)
+stating held c a stated = passed_with (difference stated (held c a)) (range_checks c a stated)
 
 -- and sets the mark unless that is zero, which clears it; a refused one leaves the marks.
 abbrev pub marks_after : Figures → List Bool → ℕ → ℕ → ℕ → List Bool
 marks_after held breaks c a stated =
-    cond (is_ok (stating held c a stated)) (slice_set breaks (spot c a) (not (stated == held c a))) breaks
+    cond (is_ok (stating held c a stated)) (slice_set breaks (spot c a) (is_break stated (held c a))) breaks

@@ -3,26 +3,19 @@
 
 #![tactic(auto)]
 
-ghost use Rattle.std.specs.Prelude.{◌≡◌, ◌+◌, ◌-◌, ◌*◌, false, replicate, is_ok};
-ghost use Rattle.refusals.specs.Ranges.{Known};
+ghost use Rattle.std.specs.Prelude.{◌≡◌, false, replicate, is_ok};
+ghost use Rattle.std.proofs.Common.{rules};
 ghost use Rattle.custody.specs.Meaning.{Alike};
-ghost use Rattle.reconciliation.specs.Breaks.{spot, depth_over, depths_over, stating, marks_after};
+ghost use Rattle.reconciliation.specs.Breaks.{depth_over, depths_over, stating, marks_after};
 
-use custody::Custody;
-use refusals::{Fault, Refusal, check_units};
+use custody::{Custody, check_release};
+use refusals::{Fault, check_names, check_range};
 
 /// A custody held by value, and a break mark for each customer and asset.
 #[derive(Drop)]
 pub struct Reconciliation<C: Custody> {
     below: C,
     breaks: [bool; 256],
-}
-
-fn spot_of(customer: u64, asset: u64) -> usize
-    requires { Known customer asset }
-    ensures { result ≡ spot customer asset }
-{
-    (4 * (customer - 1) + (asset - 1)) as usize
 }
 
 /// 1 under a mark; otherwise a block below is seen one deeper.
@@ -58,8 +51,8 @@ impl<C: Custody> Reconciliation<C> {
         ensures refused { is_ok result ≡ false → self.new ≡ self.old }
     {
         let (held, _depth) = self.below.question(customer, asset)?;
-        check_units(customer, stated)?;
-        self.breaks[spot_of(customer, asset)] = stated != held;
+        let holding = check_range(customer, asset, stated)?;
+        self.breaks[holding.spot()] = stated != held;
         Ok(stated as i64 - held as i64)
     }
 }
@@ -74,10 +67,12 @@ impl<C: Custody> Custody for Reconciliation<C> {
 
     ghost gives = { λ s c a n t. C.Custody.gives s.below c a n t.below × (t.breaks ≡ s.breaks) × Alike (C.Custody.depth t.below) (C.Custody.depth s.below) };
 
+    ghost bounded = { Prim.search rules };
+
     fn question(&self, customer: u64, asset: u64) -> Result<(u64, u8), Fault> {
+        let holding = check_names(customer, asset)?;
         let (held, depth) = self.below.question(customer, asset)?;
-        let mark = self.breaks[spot_of(customer, asset)];
-        Ok((held, depth_over(mark, depth)))
+        Ok((held, depth_over(self.breaks[holding.spot()], depth)))
     }
 
     fn take_in(&mut self, customer: u64, asset: u64, amount: u64) -> Result<(), Fault> {
@@ -85,11 +80,8 @@ impl<C: Custody> Custody for Reconciliation<C> {
     }
 
     fn release(&mut self, customer: u64, asset: u64, amount: u64) -> Result<(), Fault> {
-        let (_held, depth) = self.question(customer, asset)?;
-        check_units(customer, amount)?;
-        if depth > 0 {
-            return Err(Fault::at(Refusal::Blocked, customer, asset, u64::from(depth)));
-        }
+        let (held, depth) = self.question(customer, asset)?;
+        check_release(held, depth, customer, asset, amount)?;
         self.below.release(customer, asset, amount)
     }
 }

@@ -14,3 +14,8 @@ passed_with x (c ∷ cs) = cond c.0 (passed_with x cs) (Err c.1)
 -- The same, where there is no value to give.
 abbrev pub passed : List Check → Result (Unit {0}) Fault
 passed cs = passed_with tt cs
+
+-- The result with f of what a grant hands out; a fault stays as it is.
+abbrev pub granted_as : {X Y : Type 0} → (X → Y) → Result X Fault → Result Y Fault
+granted_as f (Ok x) = Ok (f x)
+granted_as f (Err fault) = Err fault

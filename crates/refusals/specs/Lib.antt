@@ -1,4 +1,5 @@
 pub mod Refusals
 pub mod Checks
 pub mod Ranges
+pub mod Holdings
 pub mod Shown

@@ -1,5 +1,5 @@
 -- Ranges, and the refusals of what is out of range.
-use Rattle.std.specs.Prelude.{ℕ, ◌^◌, ◌≤◌, Bool, cond, not, ◌&&◌, List, [], ◌∷◌, ℤ, ◌==◌, nat_le, unsigned_abs}
+use Rattle.std.specs.Prelude.{ℕ, ◌+◌, ◌-◌, ◌*◌, ◌^◌, ◌≤◌, Bool, cond, not, ◌&&◌, List, [], ◌∷◌, ℤ, ◌==◌, nat_le, unsigned_abs}
 use Rattle.refusals.specs.declared.Refusal.TheVariants.{CustomerRange, InstrumentRange, FigureRange}
 use Rattle.refusals.specs.Refusals.{fault}
 use Rattle.refusals.specs.Checks.{Check}
@@ -65,6 +65,10 @@ ceiling a = cond (a == 1) (10 ^ 17) (10 ^ 9)
 -- There is such a customer and such an asset.
 abbrev pub Known : ℕ → ℕ → Type 0
 Known c a = (1 ≤ c) × (c ≤ 64) × (1 ≤ a) × (a ≤ 4)
+
+-- Where a customer and asset stand among the 256, by customer, then asset.
+abbrev pub spot : ℕ → ℕ → ℕ
+spot c a = 4 * (c - 1) + (a - 1)
 
 -- Refusal 2 names no customer; 3 and 4 name the customer c, or 0 where the call names none.
 abbrev pub customer_check : ℕ → Check

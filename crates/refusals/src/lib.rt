@@ -1,4 +1,4 @@
-//! Why a call is turned down, and the ranges that come before anything else.
+//! Why a call is turned down, the ranges that come before anything else, and the holdings that are in range.
 //! This crate knows no other: every fault of the ledger is made of what stands here.
 
 #![tactic(auto)]
@@ -6,10 +6,15 @@
 ghost use Rattle.std.specs.Prelude.{◌≡◌, ◌^◌, ◌≤◌, true, [], ◌∷◌, is_ok, Some};
 ghost use Rattle.refusals.specs.Shown.{shown_fault};
 ghost use Rattle.refusals.specs.Refusals.{number, fault, fault_at};
-ghost use Rattle.refusals.specs.Checks.{passed};
-ghost use Rattle.refusals.specs.Ranges.{Known, ceiling, customer_check, asset_check, contract_check, units_check, name_checks, range_checks};
+ghost use Rattle.refusals.specs.Checks.{passed, passed_with, granted_as};
+ghost use Rattle.refusals.specs.Holdings.{names_of};
+ghost use Rattle.refusals.specs.Ranges.{between, ceiling, customer_check, asset_check, contract_check, units_check, name_checks, range_checks};
 
 use std::fmt;
+
+mod holding;
+
+pub use holding::Holding;
 
 /// The reasons for a refusal, in the order in which they are looked for.
 #[derive(Clone, Copy, PartialEq, Eq, Debug)]
@@ -39,12 +44,12 @@ pub enum Refusal {
     FewLots,
 }
 
-impl Refusal {
-    /// The number under which it is reported.
-    pub fn code(self) -> u64
-        ensures { result ≡ number self }
-    {
-        match self {
+/// The number under which it is reported.
+impl From<Refusal> for u64 {
+    ghost from_gives = { λ refusal n. n ≡ number refusal };
+
+    fn from(refusal: Refusal) -> u64 {
+        match refusal {
             Refusal::Form => 1,
             Refusal::CustomerRange => 2,
             Refusal::InstrumentRange => 3,
@@ -61,7 +66,7 @@ impl Refusal {
     }
 }
 
-/// A refusal, the customer and asset concerned and the place; each is 0 where none is named.
+/// A refusal, the customer and asset concerned and the place; each is 0 where none is named, as it is reported.
 #[derive(Clone, Copy, PartialEq, Eq, Debug)]
 pub struct Fault {
     pub refusal: Refusal,
@@ -96,25 +101,43 @@ impl fmt::Display for Fault {
     ghost output = { λ f. Some (shown_fault f) };
 
     fn fmt<W: fmt::Write>(&self, f: &mut fmt::Formatter<W>) -> fmt::Result {
-        let number = self.refusal.code();
-        let customer = self.customer;
-        let asset = self.asset;
-        let place = self.place;
         write!(
             f,
-            "refusal {number}, customer {customer}, asset {asset}, place {place}"
+            "refusal {}, customer {}, asset {}, place {}",
+            u64::from(self.refusal),
+            self.customer,
+            self.asset,
+            self.place
         )
     }
 }
+
+/// The asset that is held in cents; the others are held in units. Assets stay numbers, which calls and faults have them as.
+const CASH: u64 = 1;
+
+/// The most units of a custody call or a statement.
+const MOST_UNITS: u64 = 100_000_000_000_000_000;
 
 /// The most that is held of an asset for one customer.
 pub fn limit(asset: u64) -> u64
     ensures { result ≡ ceiling asset }
 {
-    if asset == 1 {
+    if asset == CASH {
         100_000_000_000_000_000
     } else {
         1_000_000_000
+    }
+}
+
+/// Refuses a number that is not 1 to `LAST`.
+fn check_number<const LAST: u64>(number: u64, fault: Fault) -> Result<(), Fault>
+    ensures result { result ≡ passed ((between 1 LAST number, fault) ∷ []) }
+    ensures range { is_ok result ≡ true → (1 ≤ number) × (number ≤ LAST) }
+{
+    if (1..=LAST).contains(&number) {
+        Ok(())
+    } else {
+        Err(fault)
     }
 }
 
@@ -123,10 +146,7 @@ pub fn check_customer(customer: u64) -> Result<(), Fault>
     ensures result { result ≡ passed (customer_check customer ∷ []) }
     ensures range { is_ok result ≡ true → (1 ≤ customer) × (customer ≤ 64) }
 {
-    if customer < 1 || customer > 64 {
-        return Err(Fault::of(Refusal::CustomerRange, 0));
-    }
-    Ok(())
+    check_number::<64>(customer, Fault::of(Refusal::CustomerRange, 0))
 }
 
 /// Refuses an asset that there is not.
@@ -134,10 +154,7 @@ pub fn check_asset(customer: u64, asset: u64) -> Result<(), Fault>
     ensures result { result ≡ passed (asset_check customer asset ∷ []) }
     ensures range { is_ok result ≡ true → (1 ≤ asset) × (asset ≤ 4) }
 {
-    if asset < 1 || asset > 4 {
-        return Err(Fault::of(Refusal::InstrumentRange, customer));
-    }
-    Ok(())
+    check_number::<4>(asset, Fault::of(Refusal::InstrumentRange, customer))
 }
 
 /// Refuses a contract that there is not; the customer is 0 where the call names none.
@@ -145,10 +162,7 @@ pub fn check_contract(customer: u64, contract: u64) -> Result<(), Fault>
     ensures result { result ≡ passed (contract_check customer contract ∷ []) }
     ensures range { is_ok result ≡ true → (1 ≤ contract) × (contract ≤ 8) }
 {
-    if contract < 1 || contract > 8 {
-        return Err(Fault::of(Refusal::InstrumentRange, customer));
-    }
-    Ok(())
+    check_number::<8>(contract, Fault::of(Refusal::InstrumentRange, customer))
 }
 
 /// Refuses units that no custody call or statement may have.
@@ -156,26 +170,27 @@ pub fn check_units(customer: u64, amount: u64) -> Result<(), Fault>
     ensures result { result ≡ passed (units_check customer amount ∷ []) }
     ensures range { is_ok result ≡ true → amount ≤ 10 ^ 17 }
 {
-    if amount > 100_000_000_000_000_000 {
+    if amount > MOST_UNITS {
         return Err(Fault::of(Refusal::FigureRange, customer));
     }
     Ok(())
 }
 
-/// Refuses a customer or an asset out of range.
-pub fn check_names(customer: u64, asset: u64) -> Result<(), Fault>
-    ensures result { result ≡ passed (name_checks customer asset) }
-    ensures range { is_ok result ≡ true → Known customer asset }
+/// Refuses a customer or an asset out of range, and hands out the holding that they name.
+pub fn check_names(customer: u64, asset: u64) -> Result<Holding, Fault>
+    ensures { granted_as names_of result ≡ passed_with (customer, asset) (name_checks customer asset) }
 {
     check_customer(customer)?;
-    check_asset(customer, asset)
+    check_asset(customer, asset)?;
+    Ok(Holding { customer, asset })
 }
 
-/// Refuses a customer, an asset or units out of range.
-pub fn check_range(customer: u64, asset: u64, amount: u64) -> Result<(), Fault>
-    ensures result { result ≡ passed (range_checks customer asset amount) }
-    ensures range { is_ok result ≡ true → Known customer asset × (amount ≤ 10 ^ 17) }
+/// Refuses a customer, an asset or units out of range, and hands out the holding.
+pub fn check_range(customer: u64, asset: u64, amount: u64) -> Result<Holding, Fault>
+    ensures result { granted_as names_of result ≡ passed_with (customer, asset) (range_checks customer asset amount) }
+    ensures range { is_ok result ≡ true → amount ≤ 10 ^ 17 }
 {
-    check_names(customer, asset)?;
-    check_units(customer, amount)
+    let holding = check_names(customer, asset)?;
+    check_units(customer, amount)?;
+    Ok(holding)
 }

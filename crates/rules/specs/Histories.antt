@@ -1,7 +1,7 @@
 -- The book over its custody, how an entry moves both, and the histories that lead from an opening to a state.
 use Rattle.std.specs.Prelude.{◌≡◌, ℕ, ◌-◌, Bool, false, cond, ◌&&◌, List, [], ◌∷◌, replicate, pos, is_ok, ◌==◌, slice_index_or, slice_set}
 use Rattle.std.proofs.Math.Option.{Option, some, none}
-use Rattle.refusals.specs.Ranges.{Known, is_asset, is_customer}
+use Rattle.refusals.specs.Ranges.{is_asset, is_customer}
 use Rattle.custody.specs.Meaning.{Figures, Alike}
 use Rattle.margin.specs.Meaning.{Method, on_portfolios}
 use Rattle.rules.specs.declared.records.Status.TheVariants.{Open}
@@ -94,16 +94,12 @@ put_back none v s = record {
 abbrev pub state_after : Method → Entry → State → State
 state_after m e s = cond (is_ok (answer_to m e s)) (put_back (owner e) (ruling m e s).after s) s
 
--- Break marks are alike for each of the 64 customers and four assets.
-abbrev pub MarkedAlike : (ℕ → ℕ → Bool) → (ℕ → ℕ → Bool) → Type 0
-MarkedAlike f g = (c a : ℕ) → Known c a → f c a ≡ g c a
-
 -- Two states show the same accounts, and the same units, depths and break marks of the 64 customers and four assets.
 pub record Same (s t : State) : Type 0 where
   pub accounts : s.accounts ≡ t.accounts
   pub units : Alike s.custody.units t.custody.units
   pub depths : Alike s.custody.depths t.custody.depths
-  pub broken : MarkedAlike s.broken t.broken
+  pub broken : Alike s.broken t.broken
 
 -- The entry e, brought to the state s, gets the outcome o and leaves the state t.
 pub record Step (m : Method) (e : Entry) (s : State) (o : Outcome) (t : State) : Type 0 where

@@ -10,7 +10,7 @@ pub struct Terms {
 
 /// An entry and its fields. Its kind says which permit it is brought under; delivery and return are brought by an
 /// obligation, and have its customer.
-#[derive(Clone, Copy)]
+#[derive(Clone, Copy, PartialEq, Eq, Debug)]
 pub enum Entry {
     Deposit {
         customer: u64,
@@ -64,7 +64,7 @@ pub enum Entry {
 }
 
 /// What a granted entry answers.
-#[derive(Clone, Copy)]
+#[derive(Clone, Copy, PartialEq, Eq, Debug)]
 pub enum Answer {
     /// Of a customer's entry: the figures after it.
     Figures {

@@ -22,8 +22,9 @@ pub enum MemberState {
 }
 
 /// What the book keeps of one customer; contracts and assets stand by number.
-#[derive(Clone, Copy)]
+#[derive(Clone, Copy, PartialEq, Eq, Debug)]
 pub struct CustomerRecord {
+    /// Apart from the costs: a margin method asks for eight nets, and the rules speak of eight of each.
     pub nets: [i64; 8],
     pub costs: [i64; 8],
     /// The units that a transfer took out of custody.
@@ -33,7 +34,7 @@ pub struct CustomerRecord {
 }
 
 /// What the book keeps of all customers, and what is the same for all.
-#[derive(Clone, Copy)]
+#[derive(Clone, Copy, PartialEq, Eq, Debug)]
 pub struct Accounts {
     pub records: [CustomerRecord; 64],
     pub marks: [i64; 8],

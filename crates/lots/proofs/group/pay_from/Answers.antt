@@ -3,9 +3,9 @@ use Rattle.lots.specs.Groups.{paid}
 use Rattle.lots.proofs.Groups.{paid_none, last_turn, next_turn}
 use Rattle.lots.proofs.group.pay_from.Goals as goal
 
-pub returns-in-None : goal.returns-in-None
-returns-in-None c =
-    let h = c.in-None.ensures in
+pub returns-in_default : goal.returns-in_default
+returns-in_default c =
+    let h = c.in_default.ensures in
     last_turn (8 - c.loop-turn.turn) (8 - (c.loop-turn.turn + 1)) c.loop-turn.group _ c.loop-turn.left (omega arith) h.rest h.after
     ∙ c.loop-turn.invariant
 
