@@ -1,3 +1,5 @@
 pub mod Sums
 pub mod Meaning
 pub mod Methods
+pub mod Portfolios
+pub mod Bounds

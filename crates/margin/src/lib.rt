@@ -5,8 +5,10 @@
 
 mod flat;
 mod method;
+mod portfolio;
 mod scenario;
 
 pub use flat::Flat;
 pub use method::{MarginMethod, check_portfolio};
+pub use portfolio::Portfolio;
 pub use scenario::Scenario;

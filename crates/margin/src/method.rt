@@ -1,19 +1,33 @@
-//! The interface, and the check that every method makes first.
-ghost use Rattle.std.specs.Prelude.{◌≡◌, ℕ, true, List, [], ◌∷◌, ℤ, is_ok};
-ghost use Rattle.refusals.specs.Checks.{passed};
+//! The interface, and the check that stands before the figure of every method.
+ghost use Rattle.std.specs.Prelude.{◌≡◌, ℕ, List, [], ◌∷◌, ℤ};
+ghost use Rattle.refusals.specs.Checks.{passed_with, granted_as};
 ghost use Rattle.refusals.specs.Ranges.{is_net};
 ghost use Rattle.margin.specs.Meaning.{is_portfolio, portfolio_check, asked, Bounded};
+ghost use Rattle.margin.specs.Portfolios.{nets_of};
 
+use crate::portfolio::Portfolio;
 use refusals::{Fault, Refusal};
 
+/// What it means is `required`. A method gives the figure of a portfolio; the question takes any nets, and refuses those out of
+/// range first.
 pub trait MarginMethod {
     /// What each portfolio requires.
     ghost required: { Self → List ℤ → ℕ };
 
+    /// The figure for a portfolio.
+    fn figure(&self, portfolio: &Portfolio) -> u64
+        ensures { result ≡ required self.now portfolio.now.nets };
+
     /// The figure for these nets; one out of range is refused.
     fn requirement(&self, nets: &[i64; 8]) -> Result<u64, Fault>
-        ensures result { result ≡ asked (required self.now) nets.now }
-        ensures bounds { Bounded (required self.now) };
+        ensures { result ≡ asked (required self.now) nets.now }
+    {
+        let portfolio = check_portfolio(nets)?;
+        Ok(self.figure(&portfolio))
+    }
+
+    /// No portfolio requires more than 10^12.
+    ghost bounded: { (method : Self) → Bounded (required method) };
 }
 
 /// A net is -1,000,000 to 1,000,000 units.
@@ -27,21 +41,15 @@ fn is_net(net: i64) -> bool
 fn is_portfolio(nets: &[i64; 8]) -> bool
     ensures { result ≡ is_portfolio nets.now }
 {
-    for net in nets.iter() {
-        if !is_net(*net) {
-            return false;
-        }
-    }
-    true
+    nets.iter().all(|&net| is_net(net))
 }
 
-/// Refuses a net out of range.
-pub fn check_portfolio(nets: &[i64; 8]) -> Result<(), Fault>
-    ensures result { result ≡ passed (portfolio_check nets.now ∷ []) }
-    ensures range { is_ok result ≡ true → is_portfolio nets.now ≡ true }
+/// Refuses a net out of range, and hands out the portfolio of the nets.
+pub fn check_portfolio(nets: &[i64; 8]) -> Result<Portfolio, Fault>
+    ensures { granted_as nets_of result ≡ passed_with nets.now (portfolio_check nets.now ∷ []) }
 {
     if !is_portfolio(nets) {
         return Err(Fault::of(Refusal::FigureRange, 0));
     }
-    Ok(())
+    Ok(Portfolio { nets: *nets })
 }

@@ -1,42 +1,25 @@
-use Rattle.std.proofs.Common.{◌≡◌, ◌^◌, ◌≤◌, ◌+ℤ◌, ◌*ℤ◌, nat_abs, sym, refl, ◌∙◌, ap₂, arith, w64, SFits, rules}
-use Rattle.std.proofs.lemmas.Int.{ints, to_z-of_z}
-use Rattle.margin.specs.Sums.{at, total}
-use Rattle.margin.proofs.Bounds.{total_more, net_most, product_most}
+use Rattle.std.proofs.Common.{sym, refl, ◌∙◌, length, pos, arith, rules}
+use Rattle.std.proofs.lemmas.List.{length_push}
+use Rattle.std.proofs.lemmas.Slice.Zip.{zip_turn}
+use Rattle.margin.specs.Sums.{total}
+use Rattle.margin.proofs.Gains.{Gained, gained}
 use Rattle.margin.proofs.scenario.shocked_sum.Goals as goal
 
-pub loop-i-init : goal.loop-i-init
+-- A turn has the net and the shock at the next place.
+turn : (c : goal.After-sum-in-loop-net-1) → Gained c.args.shocks.now c.args.portfolio.now.nets (length c.loop-net.yielded) c.loop-net.sum c.in-Some.net.now c.in-Some.shock.now
+turn c =
+    let pair = zip_turn c.args.portfolio.now.nets c.args.shocks.now c.loop-net.yielded _ _ c.next.new.self _ (cc) (cc) c.loop-net.yielded_by _ c.in-Some.is c.next.ensures.steps in
+    gained c.args.shocks.now c.args.portfolio.now.nets c.requires c.args.portfolio.now.in_range (length c.loop-net.yielded) _ _ _ (omega arith) (sym c.loop-net.sum-is ∙ c.loop-net.invariant) (pair.2 (pos 0)) (pair.3 (pos 0))
+
+pub loop-net-init : goal.loop-net-init
 unfolding total
-loop-i-init c = (refl, omega arith)
+loop-net-init c = refl
 
-pub gain-sum-requires : goal.gain-sum-requires
-gain-sum-requires c =
-    let f : SFits w64 (at c.args.nets.now c.loop-i.i) = search rules in
-    let g : SFits w64 (at c.args.shocks.now c.loop-i.i) = search rules in
-    (simp to_z-of_z (net_most c.args.nets.now c.requires.portfolio c.loop-i.i), simp to_z-of_z (c.requires.small c.loop-i.i))
-
--- What one turn adds.
-added : (c : goal.After-gain-sum) → c.gain-sum.result ≡ at c.args.nets.now c.loop-i.i *ℤ at c.args.shocks.now c.loop-i.i
-added c =
-    let f : SFits w64 (at c.args.nets.now c.loop-i.i) = search rules in
-    let g : SFits w64 (at c.args.shocks.now c.loop-i.i) = search rules in
-    simp to_z-of_z at c.gain-sum.ensures
-
--- It is small enough that eight fit.
-added_most : (c : goal.After-gain-sum) → nat_abs c.gain-sum.result ≤ 10 ^ 9
-added_most c =
-    rw (added c)
-    (product_most (at c.args.nets.now c.loop-i.i) (at c.args.shocks.now c.loop-i.i) (10 ^ 6) 1000
-    (net_most c.args.nets.now c.requires.portfolio c.loop-i.i) (c.requires.small c.loop-i.i))
+pub overflow_mul-sum : goal.overflow_mul-sum
+overflow_mul-sum c = let t = turn c in search rules
 
 pub overflow_add-sum : goal.overflow_add-sum
-overflow_add-sum c = omega (arith, ints, added_most c)
+overflow_add-sum c = let t = turn c in search rules
 
-pub loop-i-preserved : goal.loop-i-preserved
-loop-i-preserved c =
-    let m = added_most c in
-    let f : SFits w64 (c.loop-i.sum +ℤ c.gain-sum.result) = omega (arith, ints) in
-    let g : SFits w64 c.gain-sum.result = omega (arith, ints) in (
-      rw c.loop-i.sum-is
-          (simp to_z-of_z (ap₂ ◌+ℤ◌ (sym c.loop-i.sum-is ∙ c.loop-i.invariant.0) (added c) ∙ sym (total_more c.loop-i.i _))),
-      omega (arith, ints),
-    )
+pub loop-net-preserved : goal.loop-net-preserved
+loop-net-preserved c = let t = turn c in search (rules, length_push)

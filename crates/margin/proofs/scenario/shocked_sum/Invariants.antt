@@ -1,6 +1,6 @@
-use Rattle.std.proofs.Common.{◌≡◌, ◌*◌, ◌^◌, ◌≤◌, ◌*ℤ◌, nat_abs}
-use Rattle.margin.specs.Sums.{at, total}
+use Rattle.std.proofs.Common.{◌≡◌, length}
+use Rattle.margin.specs.Bounds.{gains}
 use Rattle.margin.proofs.scenario.shocked_sum.Given as goal
 
-abbrev pub invariant-loop-i : goal.invariant-loop-i
-invariant-loop-i l = (l.sum ≡ total l.i (λ i. at l.nets i *ℤ at l.shocks i)) × (nat_abs l.sum ≤ l.i * 10 ^ 9)
+abbrev pub invariant-loop-net : goal.invariant-loop-net
+invariant-loop-net l = l.sum ≡ gains l.shocks l.portfolio.nets (length l.yielded)
