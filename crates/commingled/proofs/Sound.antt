@@ -31,12 +31,12 @@ at_set xs i j y d h P same other =
 
 module _ (s : Commingled) where
   -- The customer's share is part of the total,
-  pub share_in_total : (of : Holding) → share s.pools of.customer of.asset ≤ (pool_of s.pools of.asset).total
-  share_in_total of =
-      let k = of.known in
-      let xs : List ℕ = (pool_of s.pools of.asset).shares in
-      let lt : of.customer - 1 < length xs = omega (arith, s.shared of.asset k.2 k.3) in
-      omega (arith, get_or-le-sum_by (λ x. x) xs (of.customer - 1) 0 lt, s.summed of.asset k.2 k.3)
+  pub share_in_total : (holding : Holding) → share s.pools holding.customer holding.asset ≤ (pool_of s.pools holding.asset).total
+  share_in_total holding =
+      let k = holding.known in
+      let xs : List ℕ = (pool_of s.pools holding.asset).shares in
+      let lt : holding.customer - 1 < length xs = omega (arith, s.shared holding.asset k.2 k.3) in
+      omega (arith, get_or-le-sum_by (λ x. x) xs (holding.customer - 1) 0 lt, s.summed holding.asset k.2 k.3)
 
   -- and 64 ceilings fit a total.
   pub total_most : (a : ℕ) → 1 ≤ a → a ≤ 4 → (pool_of s.pools a).total ≤ 64 * 10 ^ 17
@@ -52,20 +52,20 @@ module _ (s : Commingled) where
 
   -- With one share replaced by v, and its total by t, so that the total moves as the share does.
   pub replaced_sound :
-      (of : Holding) (t v : ℕ) → v ≤ ceiling of.asset → t + share s.pools of.customer of.asset ≡ (pool_of s.pools of.asset).total + v
-      → Sound (replaced s.pools of.customer of.asset t v)
-  replaced_sound of t v room even =
-      let k = of.known in
-      let i = of.asset - 1 in
-      let j = of.customer - 1 in
-      let xs : List ℕ = (pool_of s.pools of.asset).shares in
-      let n : length xs ≡ 64 = s.shared of.asset k.2 k.3 in
+      (holding : Holding) (t v : ℕ) → v ≤ ceiling holding.asset → t + share s.pools holding.customer holding.asset ≡ (pool_of s.pools holding.asset).total + v
+      → Sound (replaced s.pools holding.customer holding.asset t v)
+  replaced_sound holding t v room even =
+      let k = holding.known in
+      let i = holding.asset - 1 in
+      let j = holding.customer - 1 in
+      let xs : List ℕ = (pool_of s.pools holding.asset).shares in
+      let n : length xs ≡ 64 = s.shared holding.asset k.2 k.3 in
       let four : length s.pools ≡ 4 = s.four in
       let la : i < length s.pools = omega arith in
       let lc : j < length xs = omega arith in
       let p : Pool = pooled t (set xs j v) in
       let moved : sum (set xs j v) + get_or xs j 0 ≡ sum xs + v = sum_by-set (λ x. x) xs j v 0 lc in
-      let total : t ≡ sum (set xs j v) = omega (arith, s.summed of.asset k.2 k.3) in
+      let total : t ≡ sum (set xs j v) = omega (arith, s.summed holding.asset k.2 k.3) in
       record {
         four = simp length-set four;
         shared = λ b lo hi. at_set s.pools i (b - 1) p no_pool la (λ q. length q.shares ≡ 64) (λ _. simp length-set n) (λ _. s.shared b lo hi);
@@ -74,8 +74,8 @@ module _ (s : Commingled) where
             λ x y m.
             at_set s.pools i (y - 1) p no_pool la (λ q. get_or q.shares (x - 1) 0 ≤ ceiling y)
             (λ e.
-            let same : y ≡ of.asset = omega arith in
-            rw same (at_set xs j (x - 1) v 0 lc (λ z. z ≤ ceiling of.asset) (λ _. room) (λ _. s.capped x of.asset (omega arith))))
+            let same : y ≡ holding.asset = omega arith in
+            rw same (at_set xs j (x - 1) v 0 lc (λ z. z ≤ ceiling holding.asset) (λ _. room) (λ _. s.capped x holding.asset (omega arith))))
             (λ _. s.capped x y m);
       }
 

@@ -78,40 +78,40 @@ pub record Regrouped (store after : List Lot) (c a v : ℕ) : Type 0 where
   pub figures : Alike (held after) (with_figure (held store) c a v)
   pub depths : Alike (blocked after) (blocked store)
 
-module _ (store : List Lot) (s : Sound store) (of : Holding) where
+module _ (store : List Lot) (s : Sound store) (holding : Holding) where
   long : 2048 ≤ length store
-  long = (sound_parts store of.customer of.asset (s of.customer of.asset of.known)).0
+  long = (sound_parts store holding.customer holding.asset (s holding.customer holding.asset holding.known)).0
 
-  own_eight : length (group store of.customer of.asset) ≡ 8
-  own_eight = length_group store long of.customer of.asset of.known
+  own_eight : length (group store holding.customer holding.asset) ≡ 8
+  own_eight = length_group store long holding.customer holding.asset holding.known
 
-  own_held : held store of.customer of.asset ≡ total (group store of.customer of.asset)
-  own_held = held_sound store of.customer of.asset (s of.customer of.asset of.known)
+  own_held : held store holding.customer holding.asset ≡ total (group store holding.customer holding.asset)
+  own_held = held_sound store holding.customer holding.asset (s holding.customer holding.asset holding.known)
 
   -- What holds of the new group, and of the others as they stood, holds of each.
   each_group :
-      (g : List Lot) → length g ≡ 8 → (P : ℕ → ℕ → List Lot → Type 0) → P of.customer of.asset g
-      → ((x y : ℕ) → Known x y → (x ≡ of.customer → y ≡ of.asset → ⊥) → P x y (group store x y))
-      → (x y : ℕ) → Known x y → P x y (group (with_group store of.customer of.asset g) x y)
+      (g : List Lot) → length g ≡ 8 → (P : ℕ → ℕ → List Lot → Type 0) → P holding.customer holding.asset g
+      → ((x y : ℕ) → Known x y → (x ≡ holding.customer → y ≡ holding.asset → ⊥) → P x y (group store x y))
+      → (x y : ℕ) → Known x y → P x y (group (with_group store holding.customer holding.asset g) x y)
   each_group g eight P own other x y m =
-      let apart : (x ≡ of.customer → y ≡ of.asset → ⊥) → P x y (group (with_group store of.customer of.asset g) x y) =
-      λ d. rw (group_other store long of.customer of.asset of.known g eight x y m d) (other x y m d)
+      let apart : (x ≡ holding.customer → y ≡ holding.asset → ⊥) → P x y (group (with_group store holding.customer holding.asset g) x y) =
+      λ d. rw (group_other store long holding.customer holding.asset holding.known g eight x y m d) (other x y m d)
       in
       ⊎_elim
-      (λ (ex : x ≡ of.customer).
+      (λ (ex : x ≡ holding.customer).
       ⊎_elim
-      (λ (ey : y ≡ of.asset). rw (ex, ey, group_same store long of.customer of.asset of.known g eight) own)
-      (λ (ey : y ≢ of.asset). apart (λ _ f. ey f))
-      (cases_eq y of.asset))
-      (λ (ex : x ≢ of.customer). apart (λ e _. ex e))
-      (cases_eq x of.customer)
+      (λ (ey : y ≡ holding.asset). rw (ex, ey, group_same store long holding.customer holding.asset holding.known g eight) own)
+      (λ (ey : y ≢ holding.asset). apart (λ _ f. ey f))
+      (cases_eq y holding.asset))
+      (λ (ex : x ≢ holding.customer). apart (λ e _. ex e))
+      (cases_eq x holding.customer)
 
   regrouped :
-      (g : List Lot) (v : ℕ) → length g ≡ 8 → total g ≡ v → v ≤ ceiling of.asset
-      → Regrouped store (with_group store of.customer of.asset g) of.customer of.asset v
+      (g : List Lot) (v : ℕ) → length g ≡ 8 → total g ≡ v → v ≤ ceiling holding.asset
+      → Regrouped store (with_group store holding.customer holding.asset g) holding.customer holding.asset v
   regrouped g v eight sum room =
-      let to = with_group store of.customer of.asset g in
-      let len : length to ≡ length store = length_with_group store long of.customer of.asset of.known g eight in
+      let to = with_group store holding.customer holding.asset g in
+      let len : length to ≡ length store = length_with_group store long holding.customer holding.asset holding.known g eight in
       let most : (x y : ℕ) → Known x y → total (group to x y) ≤ ceiling y =
       each_group g eight (λ x y h. total h ≤ ceiling y) (omega arith) (λ x y m d. (sound_parts store x y (s x y m)).1)
       in
@@ -121,23 +121,27 @@ module _ (store : List Lot) (s : Sound store) (of : Holding) where
         figures =
             λ x y m.
             held_sound to x y (whole x y m)
-            ∙ each_group g eight (λ x y h. total h ≡ with_figure (held store) of.customer of.asset v x y)
-            (sum ∙ rw (eq-eqb of.customer of.customer refl, eq-eqb of.asset of.asset refl) refl)
-            (λ x y m d. sym (held_sound store x y (s x y m)) ∙ sym (figure_apart (held store) of.customer of.asset v x y d)) x y m;
+            ∙ each_group g eight (λ x y h. total h ≡ with_figure (held store) holding.customer holding.asset v x y)
+            (sum ∙ rw (eq-eqb holding.customer holding.customer refl, eq-eqb holding.asset holding.asset refl) refl)
+            (λ x y m d. sym (held_sound store x y (s x y m)) ∙ sym (figure_apart (held store) holding.customer holding.asset v x y d)) x y m;
         depths = λ x y m. free_sound to x y (whole x y m) ∙ sym (free_sound store x y (s x y m));
       }
 
   pub after_taking :
-      (n : ℕ) → held store of.customer of.asset + n ≤ ceiling of.asset
-      → Regrouped store (with_more store of.customer of.asset n) of.customer of.asset (held store of.customer of.asset + n)
-  after_taking n room =
-      let g = group store of.customer of.asset in
-      regrouped (added g n) _ (length_added g n ∙ own_eight) (omega (arith, total_added g own_eight n, own_held)) room
+      (after : List Lot) (n : ℕ) → after ≡ with_more store holding.customer holding.asset n
+      → held store holding.customer holding.asset + n ≤ ceiling holding.asset
+      → Regrouped store after holding.customer holding.asset (held store holding.customer holding.asset + n)
+  after_taking after n is room =
+      let g = group store holding.customer holding.asset in
+      rw is
+      (regrouped (added g n) _ (length_added g n ∙ own_eight) (omega (arith, total_added g own_eight n, own_held)) room)
 
   pub after_release :
-      (n : ℕ) → n ≤ held store of.customer of.asset
-      → Regrouped store (with_less store of.customer of.asset n) of.customer of.asset (held store of.customer of.asset - n)
-  after_release n enough =
-      let g = group store of.customer of.asset in
-      let most = (sound_parts store of.customer of.asset (s of.customer of.asset of.known)).1 in
-      regrouped (paid 8 g n) _ (length_paid 8 g n own_eight) (omega (arith, total_paid g n own_eight (omega (arith, own_held)), own_held)) (omega (arith, own_held))
+      (after : List Lot) (n : ℕ) → after ≡ with_less store holding.customer holding.asset n
+      → n ≤ held store holding.customer holding.asset
+      → Regrouped store after holding.customer holding.asset (held store holding.customer holding.asset - n)
+  after_release after n is enough =
+      let g = group store holding.customer holding.asset in
+      let most = (sound_parts store holding.customer holding.asset (s holding.customer holding.asset holding.known)).1 in
+      rw is
+      (regrouped (paid 8 g n) _ (length_paid 8 g n own_eight) (omega (arith, total_paid g n own_eight (omega (arith, own_held)), own_held)) (omega (arith, own_held)))

@@ -50,7 +50,7 @@ with_group store c a g = with_eight store (place c a) g
 abbrev pub sound : List Lot → ℕ → ℕ → Bool
 sound store c a = is_store store && nat_le (total (group store c a)) (ceiling a)
 
--- What holds of every account: no group of its store is unsound.
+-- What holds of every account: its store is long enough, and each group within its ceiling.
 abbrev pub Sound : List Lot → Type 0
 Sound store = (c a : ℕ) → Known c a → sound store c a ≡ true
 

@@ -1,4 +1,4 @@
-//! Holdings: what one customer has of one asset is called by the numbers of both.
+//! Holdings: one customer's holding of one asset, named by the numbers of both.
 ghost use Rattle.std.specs.Prelude.{◌≡◌, ◌-◌, ◌<◌};
 ghost use Rattle.refusals.specs.Ranges.{Known, spot};
 

@@ -112,7 +112,7 @@ impl fmt::Display for Fault {
     }
 }
 
-/// The asset that is held in cents; the others are held in units. Assets stay numbers, which calls and faults have them as.
+/// The asset that is held in cents; the others are held in units. Assets stay numbers, as calls and faults have them.
 const CASH: u64 = 1;
 
 /// The most units of a custody call or a statement.

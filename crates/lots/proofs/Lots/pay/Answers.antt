@@ -2,16 +2,10 @@ use Rattle.lots.proofs.Stores.{after_release}
 use Rattle.lots.proofs.Lots.pay.Goals as goal
 
 pub invariant_of-self : goal.invariant_of-self
-invariant_of-self c =
-    let s = c.args.self.now in
-    record { sound = rw c.pay_lots.ensures (after_release s.store.now s.sound c.args.holding c.args.amount c.requires).sound }
+invariant_of-self c = record { sound = (after_release _ c.args.self.now.sound c.args.holding _ _ c.pay_lots.ensures c.requires).sound }
 
 pub returns-clause-figures : goal.returns-clause-figures
-returns-clause-figures c =
-    let s = c.args.self.now in
-    rw c.pay_lots.ensures (after_release s.store.now s.sound c.args.holding c.args.amount c.requires).figures
+returns-clause-figures c = (after_release _ c.args.self.now.sound c.args.holding _ _ c.pay_lots.ensures c.requires).figures
 
 pub returns-clause-depths : goal.returns-clause-depths
-returns-clause-depths c =
-    let s = c.args.self.now in
-    rw c.pay_lots.ensures (after_release s.store.now s.sound c.args.holding c.args.amount c.requires).depths
+returns-clause-depths c = (after_release _ c.args.self.now.sound c.args.holding _ _ c.pay_lots.ensures c.requires).depths
