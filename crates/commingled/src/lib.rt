@@ -4,7 +4,6 @@
 #![tactic(auto)]
 
 ghost use Rattle.std.specs.Prelude.{◌≡◌, ◌+◌, ◌^◌, ◌<◌, ◌≤◌};
-ghost use Rattle.std.proofs.Common.{rules};
 ghost use Rattle.refusals.specs.Ranges.{ceiling};
 ghost use Rattle.custody.specs.Meaning.{Alike, raised, lowered};
 ghost use Rattle.commingled.specs.Pools.{share, share_in, empty_pools, raised_pool, lowered_pool, raised_pools, lowered_pools, totalled, Four, Shared, Summed, Capped};
@@ -109,8 +108,6 @@ impl Custody for Commingled {
     ghost takes = { λ s c a n t. t.pools ≡ raised_pools s.pools c a n };
 
     ghost gives = { λ s c a n t. t.pools ≡ lowered_pools s.pools c a n };
-
-    ghost bounded = { Prim.search rules };
 
     fn question(&self, customer: u64, asset: u64) -> Result<(u64, u8), Fault> {
         let holding = check_names(customer, asset)?;

@@ -27,9 +27,11 @@ pub trait Custody {
     /// What a granted release makes of the whole custody.
     ghost gives: { Self → ℕ → ℕ → ℕ → Self → Type 0 } = { λ _ _ _ _ _. Unit {0} };
 
-    /// The units held and the block depth.
+    /// The units held and the block depth. Of every value that there is, the units held never pass the ceiling, and a block
+    /// depth is at most 255.
     fn question(&self, customer: u64, asset: u64) -> Result<(u64, u8), Fault>
-        ensures { result ≡ answered (units self.now) (depth self.now) customer asset };
+        ensures result { result ≡ answered (units self.now) (depth self.now) customer asset }
+        ensures bounds { Bounded (units self.now) (depth self.now) };
 
     fn take_in(&mut self, customer: u64, asset: u64, amount: u64) -> Result<(), Fault>
         ensures result { result ≡ taken (units self.old) customer asset amount }
@@ -44,9 +46,6 @@ pub trait Custody {
         ensures depths { Alike (depth self.new) (depth self.old) }
         ensures moved { is_ok result ≡ true → gives self.old customer asset amount self.new }
         ensures refused { is_ok result ≡ false → self.new ≡ self.old };
-
-    /// Held units never pass the ceiling, and a block depth is at most 255.
-    ghost bounded: { (custody : Self) → Bounded (units custody) (depth custody) };
 }
 
 /// Every refusal of a taking in, by the units held; a grant hands out the holding.

@@ -3,7 +3,11 @@
 #![tactic(auto)]
 
 #[cfg(test)]
+mod frozen;
+
+#[cfg(test)]
 mod tests {
+    use crate::frozen::Frozen;
     use commingled::Commingled;
     use custody::Custody;
     use custody_day::{Answer, Step, perform};
@@ -257,6 +261,25 @@ mod tests {
         );
         assert_eq!(rt; outer.statement(1, 1, 101)?, 1);
         assert_eq!(rt; outer.question(1, 1)?, (100, 1));
+        Ok(())
+    }
+
+    // A block below is seen one deeper, and the deepest stays where it is.
+    #[test]
+    fn deepest_block(rt: HostRuntime) -> Result<(), Fail> {
+        let almost = Reconciliation::new(Frozen::new(Commingled::new(), 254));
+        assert_eq!(rt; almost.question(1, 1)?, (0, 255));
+        let mut deepest = Reconciliation::new(Frozen::new(Commingled::new(), 255));
+        assert_eq!(rt; deepest.question(1, 1)?, (0, 255));
+        assert_eq!(rt;
+            deepest.release(1, 1, 0),
+            Err(Fault {
+                refusal: Refusal::Blocked,
+                customer: 1,
+                asset: 1,
+                place: 255,
+            })
+        );
         Ok(())
     }
 

@@ -292,7 +292,11 @@ cleared_queues n long ms c a k =
       room = omega arith;
     })
 
--- No account is made of an unsound store.
+-- So does every store that is made,
+pub made_queues : (n : ℕ) (store : List Lot) → store ≡ replicate n (lot 0) → 2048 ≤ n → FirstInFirstOut store
+made_queues n store e long = rw e (cleared_queues n long)
+
+-- and none is unsound.
 pub made_sound : (store : List Lot) → FirstInFirstOut store → Sound store
 unfolding blocked
 made_sound store queues c a k =

@@ -2,10 +2,11 @@
 use Rattle.std.proofs.Common.{◌≡◌, ℕ, ◌+◌, ◌-◌, ◌<◌, ◌≤◌, true, leb, ◌≢◌, ◌⊎◌, List, length, take, drop, sym, refl, ap, ◌∙◌, inl, inr, ⊎_elim, arith}
 use Rattle.std.proofs.lemmas.List.{length-append, length-take-le, length-drop}
 use Rattle.std.proofs.lemmas.Slice.{between_is, take-put_mid_below, drop-put_mid, between-put_mid}
+use Rattle.std.proofs.lemmas.Bool.Decides.{nat_tests}
 use Rattle.std.proofs.lemmas.Bool.{cases_lt, cases_eq, le-leb, eq-eqb, and_from, and_parts, leb-true}
 use Rattle.refusals.specs.declared.holding.Holding.{Holding}
 use Rattle.refusals.specs.Ranges.{Known, ceiling}
-use Rattle.custody.specs.Meaning.{Alike, with_figure}
+use Rattle.custody.specs.Meaning.{Alike, Bounded, with_figure}
 use Rattle.custody.proofs.Outcomes.{figure_apart}
 use Rattle.lots.specs.Groups.{total, added, paid}
 use Rattle.lots.specs.Stores.{place, eight_at, with_eight, group, with_group, sound, Sound, with_more, with_less, held, blocked}
@@ -70,6 +71,11 @@ held_sound store c a s = rw s refl
 free_sound : (store : List Lot) (c a : ℕ) → sound store c a ≡ true → blocked store c a ≡ 0
 unfolding blocked
 free_sound store c a s = rw s refl
+
+-- The figures of any list of lots are in range.
+pub bounded : (store : List Lot) → Bounded (held store) (blocked store)
+unfolding held blocked
+bounded store c a k = (grind (arith, nat_tests), grind (arith, nat_tests))
 
 -- One group replaced by another within the ceiling: every group is sound, one figure is that group's, no other changes, and
 -- nothing is blocked.

@@ -1,13 +1,11 @@
 -- The store of lots: eight for each customer and asset, by customer, then asset.
 use Rattle.std.specs.Prelude.{◌≡◌, ℕ, ◌+◌, ◌-◌, ◌*◌, Bool, true, cond, ◌&&◌, List, [], ◌∷◌, ◌++◌, length, take, drop, replicate, is_ok, Result, nat_le}
-use Rattle.std.proofs.Common.{arith}
-use Rattle.std.proofs.lemmas.Bool.Decides.{nat_tests}
 use Rattle.refusals.specs.declared.Refusal.TheVariants.{FewLots}
 use Rattle.refusals.specs.declared.Fault.{Fault}
 use Rattle.refusals.specs.Refusals.{fault}
 use Rattle.refusals.specs.Checks.{Check, passed}
 use Rattle.refusals.specs.Ranges.{Known, ceiling}
-use Rattle.custody.specs.Meaning.{Figures, Bounded, taken, released}
+use Rattle.custody.specs.Meaning.{Figures, taken, released}
 use Rattle.lots.specs.declared.group.Lot.{Lot}
 use Rattle.lots.specs.Groups.{lot, total, added, paid}
 
@@ -61,11 +59,6 @@ held store c a = cond (sound store c a) (total (group store c a)) (ceiling a)
 -- Lots never block; 255 stands for what was never made.
 unfoldable pub blocked : List Lot → Figures
 blocked store c a = cond (sound store c a) 0 255
-
--- So the figures of any list of lots are in range.
-pub within_bounds : (store : List Lot) → Bounded (held store) (blocked store)
-unfolding held blocked
-within_bounds store c a k = (grind (arith, nat_tests), grind (arith, nat_tests))
 
 -- ---- the store after a call
 -- The store with more units of a customer and asset, or with less: their own group changes, and no other.

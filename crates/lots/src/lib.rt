@@ -9,7 +9,7 @@ ghost use Rattle.refusals.specs.Refusals.{fault};
 ghost use Rattle.refusals.specs.Ranges.{ceiling};
 ghost use Rattle.custody.specs.Meaning.{Alike, raised, lowered};
 ghost use Rattle.lots.specs.Queues.{FirstInFirstOut};
-ghost use Rattle.lots.specs.Stores.{is_store, Sound, with_more, with_less, cleared, held, blocked, within_bounds, stored, drawn};
+ghost use Rattle.lots.specs.Stores.{is_store, Sound, with_more, with_less, cleared, held, blocked, stored, drawn};
 
 use custody::{Custody, check_release, check_taking_in};
 use refusals::{Fault, Holding, check_names};
@@ -71,9 +71,7 @@ impl Custody for Lots<'_> {
 
     ghost gives = { λ s c a n t. t.store.now ≡ drawn s.store.now c a n };
 
-    ghost bounded = { λ s. within_bounds s.store.now };
-
-    #[tactic(auto, unfolding(crate::specs::Stores::blocked))]
+    #[tactic(auto, unfolding(crate::specs::Stores::blocked), using(crate::proofs::Stores::bounded))]
     fn question(&self, customer: u64, asset: u64) -> Result<(u64, u8), Fault> {
         let holding = check_names(customer, asset)?;
         Ok((held_of(self.store, holding), 0))

@@ -3,7 +3,7 @@ use Rattle.std.proofs.Common.{◌≡◌, ℕ, ◌+◌, ◌<◌, ◌≤◌, true,
 use Rattle.std.proofs.lemmas.Int.{ints}
 use Rattle.margin.specs.Sums.{at, total}
 use Rattle.margin.specs.Meaning.{is_portfolio}
-use Rattle.margin.specs.Bounds.{net_most, gain_most, gains, gains_most}
+use Rattle.margin.proofs.Bounds.{net_most, gain_most, gains, gains_most}
 
 -- A turn takes the next net and the next shock, and nothing leaves an i64.
 pub record Gained (shocks nets : List ℤ) (n : ℕ) (so_far net shock : ℤ) : Type 0 where

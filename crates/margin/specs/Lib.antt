@@ -2,4 +2,3 @@ pub mod Sums
 pub mod Meaning
 pub mod Methods
 pub mod Portfolios
-pub mod Bounds

@@ -1,7 +1,6 @@
 //! The flat method.
 ghost use Rattle.std.specs.Prelude.{◌≡◌, ◌+◌, ◌*◌, ◌^◌, ◌<◌, ◌≤◌, unsigned_abs};
 ghost use Rattle.margin.specs.Methods.{flat};
-ghost use Rattle.margin.specs.Bounds.{flat_bounded};
 
 use crate::method::MarginMethod;
 use crate::portfolio::Portfolio;
@@ -22,8 +21,6 @@ fn charge(net: i64, place: usize) -> u64
 impl MarginMethod for Flat {
     ghost required = { λ _. flat };
 
-    ghost bounded = { λ _. flat_bounded };
-
     /// The sum over contracts of absolute net × 150 × the contract number.
     fn figure(&self, portfolio: &Portfolio) -> u64 {
         let mut sum = 0;
@@ -32,4 +29,7 @@ impl MarginMethod for Flat {
         }
         sum
     }
+
+    #[tactic(auto, using(crate::proofs::Bounds::flat_bounded))]
+    fn stay_bounded(&self) {}
 }

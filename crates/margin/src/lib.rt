@@ -7,6 +7,8 @@ mod flat;
 mod method;
 mod portfolio;
 mod scenario;
+#[cfg(test)]
+mod tests;
 
 pub use flat::Flat;
 pub use method::{MarginMethod, check_portfolio};

@@ -18,16 +18,20 @@ pub trait MarginMethod {
     fn figure(&self, portfolio: &Portfolio) -> u64
         ensures { result ≡ required self.now portfolio.now.nets };
 
+    /// No portfolio requires more than 10^12. The call is for its contract alone; where the bound rests on the type of a
+    /// number, the body reads that number. It is no law, since a law speaks also of numbers that don't fit their type.
+    fn stay_bounded(&self)
+        ensures { Bounded (required self.now) };
+
     /// The figure for these nets; one out of range is refused.
     fn requirement(&self, nets: &[i64; 8]) -> Result<u64, Fault>
-        ensures { result ≡ asked (required self.now) nets.now }
+        ensures result { result ≡ asked (required self.now) nets.now }
+        ensures bounds { Bounded (required self.now) }
     {
+        self.stay_bounded();
         let portfolio = check_portfolio(nets)?;
         Ok(self.figure(&portfolio))
     }
-
-    /// No portfolio requires more than 10^12.
-    ghost bounded: { (method : Self) → Bounded (required method) };
 }
 
 /// A net is -1,000,000 to 1,000,000 units.

@@ -2,7 +2,6 @@
 ghost use Rattle.std.specs.Prelude.{◌≡◌, ℕ, ◌≤◌, unsigned_abs};
 ghost use Rattle.margin.specs.Sums.{at};
 ghost use Rattle.margin.specs.Methods.{shocked, scenario};
-ghost use Rattle.margin.specs.Bounds.{scenario_bounded};
 
 use crate::method::MarginMethod;
 use crate::portfolio::Portfolio;
@@ -30,12 +29,13 @@ fn shocked_sum(portfolio: &Portfolio, shocks: &[i64; 8]) -> i64
 impl MarginMethod for Scenario {
     ghost required = { λ _. scenario };
 
-    ghost bounded = { λ _. scenario_bounded };
-
     /// The larger absolute value of the two sums.
     fn figure(&self, portfolio: &Portfolio) -> u64 {
         let first = shocked_sum(portfolio, &FIRST_SHOCKS);
         let second = shocked_sum(portfolio, &SECOND_SHOCKS);
         first.unsigned_abs().max(second.unsigned_abs())
     }
+
+    #[tactic(auto, using(crate::proofs::Bounds::scenario_bounded))]
+    fn stay_bounded(&self) {}
 }

@@ -4,7 +4,6 @@
 #![tactic(auto)]
 
 ghost use Rattle.std.specs.Prelude.{◌≡◌, false, replicate, is_ok};
-ghost use Rattle.std.proofs.Common.{rules};
 ghost use Rattle.custody.specs.Meaning.{Alike};
 ghost use Rattle.reconciliation.specs.Breaks.{depth_over, depths_over, stating, marks_after};
 
@@ -67,11 +66,9 @@ impl<C: Custody> Custody for Reconciliation<C> {
 
     ghost gives = { λ s c a n t. C.Custody.gives s.below c a n t.below × (t.breaks ≡ s.breaks) × Alike (C.Custody.depth t.below) (C.Custody.depth s.below) };
 
-    ghost bounded = { Prim.search rules };
-
     fn question(&self, customer: u64, asset: u64) -> Result<(u64, u8), Fault> {
-        let holding = check_names(customer, asset)?;
         let (held, depth) = self.below.question(customer, asset)?;
+        let holding = check_names(customer, asset)?;
         Ok((held, depth_over(self.breaks[holding.spot()], depth)))
     }
 

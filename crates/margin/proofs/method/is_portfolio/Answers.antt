@@ -3,7 +3,7 @@ use Rattle.std.proofs.lemmas.Grind.{common_steps}
 use Rattle.std.proofs.lemmas.Iterator.{YieldsList-from_slice}
 use Rattle.std.proofs.lemmas.Iterator.Search.{all_from_yields_List}
 use Rattle.refusals.specs.Ranges.{is_net}
-use Rattle.margin.specs.Bounds.{each_net}
+use Rattle.margin.proofs.Bounds.{each_net}
 use Rattle.margin.proofs.method.is_portfolio.Goals as goal
 
 pub returns : goal.returns

@@ -1,5 +1,5 @@
 use Rattle.std.proofs.Common.{◌≡◌, length}
-use Rattle.margin.specs.Bounds.{gains}
+use Rattle.margin.proofs.Bounds.{gains}
 use Rattle.margin.proofs.scenario.shocked_sum.Given as goal
 
 abbrev pub invariant-loop-net : goal.invariant-loop-net

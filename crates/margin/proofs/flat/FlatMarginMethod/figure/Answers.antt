@@ -1,6 +1,6 @@
 use Rattle.std.proofs.Common.{◌+◌, refl, add-one, arith, rules}
 use Rattle.margin.specs.Sums.{sum}
-use Rattle.margin.specs.Bounds.{net_most, charges_most}
+use Rattle.margin.proofs.Bounds.{net_most, charges_most}
 use Rattle.margin.proofs.flat.FlatMarginMethod.figure.Goals as goal
 
 pub loop-place-init : goal.loop-place-init

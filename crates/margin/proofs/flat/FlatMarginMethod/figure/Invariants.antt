@@ -1,5 +1,5 @@
 use Rattle.std.proofs.Common.{◌≡◌}
-use Rattle.margin.specs.Bounds.{charges}
+use Rattle.margin.proofs.Bounds.{charges}
 use Rattle.margin.proofs.flat.FlatMarginMethod.figure.Given as goal
 
 abbrev pub invariant-loop-place : goal.invariant-loop-place

@@ -1,4 +1,4 @@
--- No portfolio requires more than 10^12, by either method. The trait asks for this as a law, and what a law cites stands in the specs.
+-- No portfolio requires more than 10^12, by either method.
 use Rattle.std.specs.Prelude.{◌≡◌, ℕ, zero, suc, ◌+◌, ◌*◌, ◌^◌, ◌≤◌, true, ◌&&◌, List, [], ◌∷◌, length, ℤ, ◌*ℤ◌, ◌==◌, unsigned_abs}
 use Rattle.std.specs.List.{list_all}
 use Rattle.std.proofs.Common.{refl, ap, ◌∙◌, mul-le-mul, arith}
